@@ -1,0 +1,35 @@
+-- The five calls, what each does to a card and what it answers.
+use Prim.Native.Nat.{ℕ}
+use mathlib.Core.List.{List}
+use Rattle.rules.specs.declared.Answer.{Answer}
+use Rattle.rules.specs.Look.{look}
+use Rattle.rules.specs.Next.{next}
+use Rattle.rules.specs.Write.{Plan, planCard, planAnswer, post, strike}
+use Rattle.rules.specs.Format.{format}
+
+-- format: buckets, sectors, TD, TI; post: bib, stamp, time; strike, look, next: bib, stamp
+pub data Call : Type 0 where
+  formatCall : ℕ → ℕ → ℕ → ℕ → Call
+  postCall : ℕ → ℕ → ℕ → Call
+  strikeCall : ℕ → ℕ → Call
+  lookCall : ℕ → ℕ → Call
+  nextCall : ℕ → ℕ → Call
+
+-- the card afterwards, and the answer
+pub record Done : Type 0 where
+  pub card : List ℕ
+  pub answer : Answer
+
+unfoldable pub planned : List ℕ → Plan → Done
+planned card p = record { card = planCard card p; answer = planAnswer p }
+
+-- "Reads never change the card"
+unfoldable pub answered : List ℕ → Answer → Done
+answered card a = record { card = card; answer = a }
+
+unfoldable pub called : List ℕ → Call → Done
+called card (formatCall n m td ti) = planned card (format card n m td ti)
+called card (postCall bib at time) = planned card (post card bib at time)
+called card (strikeCall bib at) = planned card (strike card bib at)
+called card (lookCall bib at) = answered card (look card bib at)
+called card (nextCall bib at) = answered card (next card bib at)

@@ -1,0 +1,90 @@
+-- A list of lines that the rules are held to: calls with their answers, buckets with their sectors, times with their digits.
+use Prim.Native.Nat.{ℕ, zero, suc, _+_}
+use mathlib.Core.Bool.{Bool, true, false}
+use mathlib.Core.List.{List, [], _∷_}
+use mathlib.Core.Option.{Option, none, some}
+use lib.Dec.{eqb}
+use Rattle.rules.specs.declared.Entry.{Entry}
+use Rattle.rules.specs.declared.Head.{Head}
+use Rattle.rules.specs.declared.Sector.{Sector}
+use Rattle.rules.specs.declared.Sector.the-variants.{Blank, Held, Damaged}
+use Rattle.rules.specs.declared.Answer.{Answer}
+use Rattle.rules.specs.declared.Digits.{Digits}
+use Rattle.rules.specs.Plain.{if, _&_}
+use Rattle.rules.specs.Sector.{sectorAt, decode}
+use Rattle.rules.specs.Layout.{headOf, base}
+use Rattle.rules.specs.Write.{topUsed}
+use Rattle.rules.specs.Panel.{panel}
+use Rattle.rules.specs.Calls.{Call, Done}
+use Rattle.rules.specs.Bench.{benchCall}
+
+-- no card any more; a call and its answer; a bucket and its m sectors; the log's first sectors; the highest bucket written; a time, a field, the number and places it gives
+pub data Line : Type 0 where
+  anew : Line
+  says : Call → Answer → Line
+  holds : ℕ → List Sector → Line
+  logs : List Sector → Line
+  used : ℕ → Line
+  shows : ℕ → ℕ → ℕ → List ℕ → Line
+
+unfoldable pub same : List ℕ → List ℕ → Bool
+same [] [] = true
+same [] (y ∷ ys) = false
+same (x ∷ xs) [] = false
+same (x ∷ xs) (y ∷ ys) = eqb x y & same xs ys
+
+unfoldable pub sameAnswer : Answer → Answer → Bool
+sameAnswer a b = same (a .code ∷ a .bib ∷ a .at ∷ a .time ∷ a .reads ∷ []) (b .code ∷ b .bib ∷ b .at ∷ b .time ∷ b .reads ∷ [])
+
+unfoldable pub sameSector : Sector → Sector → Bool
+sameSector Blank Blank = true
+sameSector Blank (Held e) = false
+sameSector Blank Damaged = false
+sameSector (Held d) Blank = false
+sameSector (Held d) (Held e) = same (d .kind ∷ d .key ∷ d .stamp ∷ d .value ∷ []) (e .kind ∷ e .key ∷ e .stamp ∷ e .value ∷ [])
+sameSector (Held d) Damaged = false
+sameSector Damaged s = false
+
+-- the sectors from sector i are these
+unfoldable pub lie : ℕ → List ℕ → ℕ → List Sector → Bool
+lie n card i [] = true
+lie n card i (s ∷ ss) = sameSector (decode n (sectorAt card i)) s & lie n card (suc i) ss
+
+unfoldable pub many : List Sector → ℕ
+many [] = 0
+many (s ∷ ss) = suc (many ss)
+
+unfoldable pub holdsIn : List ℕ → Option Head → ℕ → List Sector → Bool
+holdsIn card none b ss = false
+holdsIn card (some h) b ss = eqb (many ss) (h .m) & lie (h .n) card (base h b) ss
+
+unfoldable pub logsIn : List ℕ → Option Head → List Sector → Bool
+logsIn card none ss = false
+logsIn card (some h) ss = lie (h .n) card 1 ss
+
+unfoldable pub usedIn : List ℕ → Option Head → ℕ → Bool
+usedIn card none k = false
+usedIn card (some h) k = eqb (topUsed h card (h .n)) k
+
+unfoldable pub sameDigits : Digits → ℕ → List ℕ → Bool
+sameDigits d c ps = eqb (d .code) c & same (d .places) ps
+
+unfoldable pub right : List ℕ → Line → Bool
+right card anew = true
+right card (says k a) = sameAnswer (benchCall card k .answer) a
+right card (holds b ss) = holdsIn card (headOf card) b ss
+right card (logs ss) = logsIn card (headOf card) ss
+right card (used k) = usedIn card (headOf card) k
+right card (shows time field c ps) = sameDigits (panel time field) c ps
+
+unfoldable pub cardNext : List ℕ → Line → List ℕ
+cardNext card anew = []
+cardNext card (says k a) = benchCall card k .card
+cardNext card (holds b ss) = card
+cardNext card (logs ss) = card
+cardNext card (used k) = card
+cardNext card (shows time field c ps) = card
+
+unfoldable pub passes : List ℕ → List Line → Bool
+passes card [] = true
+passes card (l ∷ ls) = right card l & passes (cardNext card l) ls

@@ -1,0 +1,15 @@
+pub mod Plain
+pub mod Sector
+pub mod Layout
+pub mod Bucket
+pub mod Walk
+pub mod Answers
+pub mod Look
+pub mod Next
+pub mod Rewrite
+pub mod Write
+pub mod Format
+pub mod Calls
+pub mod Panel
+pub mod Bench
+pub mod Cases
