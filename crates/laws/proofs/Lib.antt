@@ -1,0 +1,5 @@
+pub mod Tools
+pub mod Sectors
+pub mod Codec
+pub mod Run
+pub mod Lists

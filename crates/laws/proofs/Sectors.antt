@@ -1,0 +1,60 @@
+-- Sixteen bytes put at a sector change that sector alone, and keep the length.
+use mathlib.Core.Path.{_≡_, refl, ap, sym, _∙_, subst}
+use mathlib.Core.Logic.{⊎-elim}
+use Prim.Native.Nat.{ℕ, zero, suc, _+_, _*_, _-_, _≤_, _<_, min}
+use Rattle.laws.proofs.Tools.{le-or-lt}
+use native.Mathlib.Omega.{arith}
+use mathlib.Core.List.{List, [], _∷_, _++_, append-assoc}
+use lib.ListN.{length, take, drop, length-append, length-take, length-drop, take-append-drop}
+use lib.Seq.{length-take-le, take-at, drop-at, take-append-le, drop-append-le, drop-append-add, drop-drop}
+use Rattle.rules.specs.Sector.{sectorAt, put}
+
+pub length-put : (card : List ℕ) (i : ℕ) (bs : List ℕ) → length bs ≡ 16 → 16 * i + 16 ≤ length card → length (put card i bs) ≡ length card
+unfolding put
+length-put card i bs hb h = simp (length-append, length-take, length-drop) (omega arith)
+
+pub sector-put-same : (card : List ℕ) (i : ℕ) (bs : List ℕ) → length bs ≡ 16 → 16 * i + 16 ≤ length card → sectorAt (put card i bs) i ≡ bs
+unfolding put sectorAt
+sector-put-same card i bs hb h =
+    ap (take 16) (drop-at (take (16 * i) card) (bs ++ drop (16 * i + 16) card) (16 * i) (length-take-le (16 * i) card (omega arith)))
+    ∙ take-at bs (drop (16 * i + 16) card) 16 hb
+
+-- a sector that lies in the front
+front : (p x y : List ℕ) (j : ℕ) → 16 * j + 16 ≤ length p → sectorAt (p ++ x) j ≡ sectorAt (p ++ y) j
+unfolding sectorAt
+front p x y j h = one x ∙ sym (one y)
+  where
+    one : (z : List ℕ) → take 16 (drop (16 * j) (p ++ z)) ≡ take 16 (drop (16 * j) p)
+    one z =
+        ap (take 16) (drop-append-le (16 * j) p z (omega arith))
+        ∙ take-append-le 16 (drop (16 * j) p) z (simp length-drop (omega arith))
+
+-- a sector that lies behind
+back : (p q z : List ℕ) (j : ℕ) → length p ≡ length q → length p ≤ 16 * j → sectorAt (p ++ z) j ≡ sectorAt (q ++ z) j
+unfolding sectorAt
+back p q z j e h = ap (take 16) (one p h ∙ ap (λ n. drop (16 * j - n) z) e ∙ sym (one q (omega arith)))
+  where
+    one : (r : List ℕ) → length r ≤ 16 * j → drop (16 * j) (r ++ z) ≡ drop (16 * j - length r) z
+    one r hr =
+        let eq : 16 * j ≡ length r + (16 * j - length r) = omega arith in
+        ap (λ n. drop n (r ++ z)) eq ∙ drop-append-add r z (16 * j - length r)
+
+pub sector-put-other : (card : List ℕ) (i j : ℕ) (bs : List ℕ) → length bs ≡ 16 → 16 * i + 16 ≤ length card → (j ≡ i → ⊥) → sectorAt (put card i bs) j ≡ sectorAt card j
+unfolding put
+sector-put-other card i j bs hb h ne = ⊎-elim behind before (le-or-lt i j)
+  where
+    len : length (take (16 * i) card) ≡ 16 * i
+    len = length-take-le (16 * i) card (omega arith)
+
+    before : j < i → sectorAt (take (16 * i) card ++ (bs ++ drop (16 * i + 16) card)) j ≡ sectorAt card j
+    before lt =
+        front (take (16 * i) card) (bs ++ drop (16 * i + 16) card) (drop (16 * i) card) j (omega (arith, len))
+        ∙ ap (λ c. sectorAt c j) (take-append-drop (16 * i) card)
+
+    behind : i ≤ j → sectorAt (take (16 * i) card ++ (bs ++ drop (16 * i + 16) card)) j ≡ sectorAt card j
+    behind le =
+        ap (λ c. sectorAt c j) (sym (append-assoc (take (16 * i) card) bs (drop (16 * i + 16) card)))
+        ∙ back (take (16 * i) card ++ bs) (take (16 * i + 16) card) (drop (16 * i + 16) card) j
+        (simp (length-append, length-take) (omega arith))
+        (simp length-append (omega (arith, len)))
+        ∙ ap (λ c. sectorAt c j) (take-append-drop (16 * i + 16) card)

@@ -1,0 +1,1 @@
+// Laws of the rules that code and promises cite; no code.

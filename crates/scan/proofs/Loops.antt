@@ -1,0 +1,199 @@
+-- The turns of the loops, as the code has the numbers: what each way out of a turn says of the whole scan.
+use mathlib.Core.Path.{_≡_, refl, ap, ap₂, sym, _∙_, subst}
+use mathlib.Core.Bool.{Bool, true, false}
+use mathlib.Core.Logic.{⊎-elim}
+use Prim.Native.Nat.{ℕ, zero, suc, _+_, _*_, _-_, _≤_, _<_}
+use native.Mathlib.Omega.{arith}
+use native.Mathlib.Nat.{add-sub-cancel-left}
+use native.Mathlib.Numerals.{add-one}
+use mathlib.Core.List.{List, [], _∷_}
+use lib.ListN.{length, take, drop}
+use lib.Dec.{leb, eqb}
+use borrow.Author.Tests.{eq-eqb, ne-eqb}
+use types.Run.{OneOf}
+use denote.Enum.Declared.{tagOf}
+use Rattle.rules.specs.declared.Entry.{Entry}
+use Rattle.rules.specs.declared.Head.{Head}
+use Rattle.rules.specs.declared.Sector.{Sector}
+use Rattle.rules.specs.declared.Sector.the-variants.{Blank, Held, Damaged}
+use Rattle.rules.specs.Bucket.{joins}
+use Rattle.rules.specs.Plain.{if}
+use Rattle.rules.specs.Sector.{sectorAt, decode, isIndex}
+use Rattle.rules.proofs.Sector.{the-type}
+use Rattle.scan.specs.declared.Found.{Found}
+use Rattle.scan.specs.declared.Found.the-variants.{Damage, Nothing, Hit}
+use Rattle.scan.specs.declared.Way.{Way}
+use Rattle.scan.specs.declared.Way.the-variants.{Lost, Down, Absent, Copy}
+use Rattle.scan.specs.declared.Trip.{Trip}
+use Rattle.scan.specs.Scan.{sectors, allBlank, scanIn, pick, wayOf, search}
+use Rattle.scan.specs.Look.{searchAt, trip, onward, walkScan}
+use Rattle.scan.specs.Next.{weigh, standIn, pickNext, later}
+
+-- the sectors from the i-th on, up to the m-th: the i-th, and those from the next on
+pub sectors-step : (n m i : ℕ) (b : List ℕ) → i < m
+    → sectors n b i (m - i) ≡ decode n (take (16 * i + 16 - 16 * i) (drop (16 * i) b)) ∷ sectors n b (i + 1) (m - (i + 1))
+unfolding sectors sectorAt
+sectors-step n m i b h =
+    let more : m - i ≡ suc (m - (i + 1)) = omega arith in
+    rw (more, add-sub-cancel-left, add-one)
+
+pub sectors-end : (n m i : ℕ) (b : List ℕ) → m ≤ i → sectors n b i (m - i) ≡ []
+unfolding sectors
+sectors-end n m i b h = let z : m - i ≡ 0 = omega arith in rw z
+
+-- the first of m sectors
+pub sectors-first : (n m : ℕ) (b : List ℕ) → 4 ≤ m → sectors n b 0 m ≡ decode n (take 16 b) ∷ sectors n b 1 (m - 1)
+unfolding sectors sectorAt
+sectors-first n m b h = let more : m ≡ suc (m - 1) = omega arith in ap (λ (k : ℕ). sectors n b 0 k) more
+
+damaged-at : (ok : Entry → Bool) (pick : Found → Entry → Found) (best : Found) (s : Sector) (l : List Sector)
+    → OneOf (0 ∷ 2 ∷ []) (tagOf the-type s) → OneOf (1 ∷ 2 ∷ []) (tagOf the-type s) → Damage ≡ scanIn ok pick (s ∷ l) best
+unfolding scanIn
+damaged-at ok pick best Blank l p q = ⊎-elim (λ a. absurd (omega arith)) (λ c. absurd (omega arith)) q
+damaged-at ok pick best (Held e) l p q = ⊎-elim (λ a. absurd (omega arith)) (λ c. absurd (omega arith)) p
+damaged-at ok pick best Damaged l p q = refl
+
+-- the sector s was read at i; w is what the whole scan says
+module _ (ok : Entry → Bool) (pick : Found → Entry → Found) (n m i : ℕ) (b : List ℕ) (s : Sector) (best w : Found) (h : i < m)
+    (d : s ≡ decode n (take (16 * i + 16 - 16 * i) (drop (16 * i) b))) (inv : scanIn ok pick (sectors n b i (m - i)) best ≡ w) where
+  pub scan-turn : scanIn ok pick (s ∷ sectors n b (i + 1) (m - (i + 1))) best ≡ w
+  scan-turn = rw (sectors-step n m i b h, ← d) at inv
+
+  -- an entry that passes: one turn more
+  pub scan-more : (e : Entry) → s ≡ Held e → ok e ≡ true → scanIn ok pick (sectors n b (i + 1) (m - (i + 1))) (pick best e) ≡ w
+  unfolding scanIn
+  scan-more e is o = rw (is, o) at scan-turn
+
+  -- an entry that does not: damage
+  pub scan-bad : (e : Entry) → s ≡ Held e → ok e ≡ false → Damage ≡ w
+  unfolding scanIn
+  scan-bad e is o = rw (is, o) at scan-turn
+
+  -- a blank: the rest decides
+  pub scan-blank : s ≡ Blank → (r : Bool) → allBlank (sectors n b (i + 1) (m - (i + 1))) ≡ r → if r best Damage ≡ w
+  unfolding scanIn
+  scan-blank is r a = rw (is, a) at scan-turn
+
+  -- neither an entry nor blank, as the two elses have it
+  pub scan-damaged : OneOf (0 ∷ 2 ∷ []) (tagOf the-type s) → OneOf (1 ∷ 2 ∷ []) (tagOf the-type s) → Damage ≡ w
+  scan-damaged p q = damaged-at ok pick best s (sectors n b (i + 1) (m - (i + 1))) p q ∙ scan-turn
+
+pub scan-end : (ok : Entry → Bool) (pick : Found → Entry → Found) (n m i : ℕ) (b : List ℕ) (best w : Found) → m ≤ i
+    → scanIn ok pick (sectors n b i (m - i)) best ≡ w → best ≡ w
+unfolding scanIn
+scan-end ok pick n m i b best w h inv = rw (sectors-end n m i b h) at inv
+
+-- the header, read before the loop
+first-other-kind : (k x t : ℕ) (s : Sector) (l : List Sector) → OneOf (0 ∷ 2 ∷ []) (tagOf the-type s) → Lost ≡ search k x t (s ∷ l)
+unfolding search
+first-other-kind k x t Blank l p = refl
+first-other-kind k x t (Held e) l p = ⊎-elim (λ a. absurd (omega arith)) (λ c. absurd (omega arith)) p
+first-other-kind k x t Damaged l p = refl
+
+module _ (k x t n m : ℕ) (b : List ℕ) (s : Sector) (h : 4 ≤ m) (d : s ≡ decode n (take 16 b)) where
+  -- no entry at the start
+  pub first-none : OneOf (0 ∷ 2 ∷ []) (tagOf the-type s) → Lost ≡ search k x t (sectors n b 0 m)
+  first-none p = rw (sectors-first n m b h, ← d) (first-other-kind k x t s (sectors n b 1 (m - 1)) p)
+
+  -- another header than the key followed
+  pub first-other : (e : Entry) → s ≡ Held e → (e .key ≡ k → ⊥) → Lost ≡ search k x t (sectors n b 0 m)
+  unfolding search
+  first-other e is other = rw (sectors-first n m b h, ← d, is, ne-eqb (e .key) k other)
+
+  -- the scan with that header
+  pub first-starts : (e : Entry) → s ≡ Held e → e .key ≡ k
+      → wayOf (isIndex e) (scanIn (joins e) (pick (isIndex e) x t) (sectors n b 0 m) Nothing) ≡ search k x t (sectors n b 0 m)
+  unfolding search
+  first-starts e is same = rw (sectors-first n m b h, ← d, is, eq-eqb (e .key) k same)
+
+-- the loop over the rest, which has to be blank
+not-blank : (s : Sector) (l : List Sector) → OneOf (1 ∷ 2 ∷ []) (tagOf the-type s) → false ≡ allBlank (s ∷ l)
+unfolding allBlank
+not-blank Blank l p = ⊎-elim (λ a. absurd (omega arith)) (λ c. absurd (omega arith)) p
+not-blank (Held e) l p = refl
+not-blank Damaged l p = refl
+
+module _ (n m i : ℕ) (b : List ℕ) (s : Sector) (w : Bool) (h : i < m)
+    (d : s ≡ decode n (take (16 * i + 16 - 16 * i) (drop (16 * i) b))) (inv : allBlank (sectors n b i (m - i)) ≡ w) where
+  pub blank-more : s ≡ Blank → allBlank (sectors n b (i + 1) (m - (i + 1))) ≡ w
+  unfolding allBlank
+  blank-more is = rw (sectors-step n m i b h, ← d, is) at inv
+
+  pub blank-ends : OneOf (1 ∷ 2 ∷ []) (tagOf the-type s) → false ≡ w
+  blank-ends p = not-blank s (sectors n b (i + 1) (m - (i + 1))) p ∙ (rw (sectors-step n m i b h, ← d) at inv)
+
+pub blank-none : (n m i : ℕ) (b : List ℕ) (w : Bool) → m ≤ i → allBlank (sectors n b i (m - i)) ≡ w → true ≡ w
+unfolding allBlank
+blank-none n m i b w h inv = rw (sectors-end n m i b h) at inv
+
+-- next's passes: an entry is one turn more, anything else the end
+weigh-other : (pick : Found → Entry → Found) (s : Sector) (l : List Sector) (best : Found) → OneOf (0 ∷ 2 ∷ []) (tagOf the-type s) → best ≡ weigh pick (s ∷ l) best
+unfolding weigh
+weigh-other pick Blank l best p = refl
+weigh-other pick (Held e) l best p = ⊎-elim (λ a. absurd (omega arith)) (λ c. absurd (omega arith)) p
+weigh-other pick Damaged l best p = refl
+
+stand-other : (k t : ℕ) (s : Sector) (l : List Sector) (best : Found) → OneOf (0 ∷ 2 ∷ []) (tagOf the-type s) → best ≡ standIn k t (s ∷ l) best
+unfolding standIn
+stand-other k t Blank l best p = refl
+stand-other k t (Held e) l best p = ⊎-elim (λ a. absurd (omega arith)) (λ c. absurd (omega arith)) p
+stand-other k t Damaged l best p = refl
+
+later-other : (x t : ℕ) (s : Sector) (l : List Sector) → OneOf (0 ∷ 2 ∷ []) (tagOf the-type s) → false ≡ later x t (s ∷ l)
+unfolding later
+later-other x t Blank l p = refl
+later-other x t (Held e) l p = ⊎-elim (λ a. absurd (omega arith)) (λ c. absurd (omega arith)) p
+later-other x t Damaged l p = refl
+
+module _ (n m i : ℕ) (b : List ℕ) (s : Sector) (h : i < m) (d : s ≡ decode n (take (16 * i + 16 - 16 * i) (drop (16 * i) b))) where
+  pub weigh-more : (pick : Found → Entry → Found) (best w : Found) → weigh pick (sectors n b i (m - i)) best ≡ w → (e : Entry) → s ≡ Held e
+      → weigh pick (sectors n b (i + 1) (m - (i + 1))) (pick best e) ≡ w
+  unfolding weigh
+  weigh-more pick best w inv e is = rw (sectors-step n m i b h, ← d, is) at inv
+
+  pub weigh-ends : (pick : Found → Entry → Found) (best w : Found) → weigh pick (sectors n b i (m - i)) best ≡ w
+      → OneOf (0 ∷ 2 ∷ []) (tagOf the-type s) → best ≡ w
+  weigh-ends pick best w inv p = weigh-other pick s (sectors n b (i + 1) (m - (i + 1))) best p ∙ (rw (sectors-step n m i b h, ← d) at inv)
+
+  pub stand-more : (k t : ℕ) (best w : Found) → standIn k t (sectors n b i (m - i)) best ≡ w → (e : Entry) → s ≡ Held e
+      → standIn k t (sectors n b (i + 1) (m - (i + 1))) (pickNext k t (later (e .key) t (sectors n b (i + 1) (m - (i + 1)))) best e) ≡ w
+  unfolding standIn
+  stand-more k t best w inv e is = rw (sectors-step n m i b h, ← d, is) at inv
+
+  pub stand-ends : (k t : ℕ) (best w : Found) → standIn k t (sectors n b i (m - i)) best ≡ w
+      → OneOf (0 ∷ 2 ∷ []) (tagOf the-type s) → best ≡ w
+  stand-ends k t best w inv p = stand-other k t s (sectors n b (i + 1) (m - (i + 1))) best p ∙ (rw (sectors-step n m i b h, ← d) at inv)
+
+  pub later-turn : (x t : ℕ) (w : Bool) → later x t (sectors n b i (m - i)) ≡ w → (e : Entry) → s ≡ Held e
+      → if (leb (e .stamp) t) (if (eqb (e .key) x) true (later x t (sectors n b (i + 1) (m - (i + 1))))) (later x t (sectors n b (i + 1) (m - (i + 1)))) ≡ w
+  unfolding later
+  later-turn x t w inv e is = rw (sectors-step n m i b h, ← d, is) at inv
+
+  pub later-ends : (x t : ℕ) (w : Bool) → later x t (sectors n b i (m - i)) ≡ w → OneOf (0 ∷ 2 ∷ []) (tagOf the-type s) → false ≡ w
+  later-ends x t w inv p = later-other x t s (sectors n b (i + 1) (m - (i + 1))) p ∙ (rw (sectors-step n m i b h, ← d) at inv)
+
+-- one bucket of the walk, as its loop has the numbers
+module _ (h : Head) (card : List ℕ) (x t r b k : ℕ) (w : Trip) (lt : r < h .n) (inv : walkScan h card x t (h .n - r) r b k ≡ w) where
+  pub walk-turn : onward (searchAt h card x t b k) (r + 1) (walkScan h card x t (h .n - (r + 1)) (r + 1)) ≡ w
+  unfolding walkScan
+  walk-turn = let more : h .n - r ≡ suc (h .n - (r + 1)) = omega arith in rw more at inv
+
+  pub walk-down : (e : Entry) → searchAt h card x t b k ≡ Down e → walkScan h card x t (h .n - (r + 1)) (r + 1) (e .value) (e .key) ≡ w
+  unfolding onward
+  walk-down e q = rw q at walk-turn
+
+  pub walk-lost : searchAt h card x t b k ≡ Lost → trip 0 Damage ≡ w
+  unfolding onward
+  walk-lost q = rw q at walk-turn
+
+  pub walk-absent : searchAt h card x t b k ≡ Absent → trip (r + 1) Nothing ≡ w
+  unfolding onward
+  walk-absent q = rw q at walk-turn
+
+  pub walk-copy : (e : Entry) → searchAt h card x t b k ≡ Copy e → trip (r + 1) (Hit e) ≡ w
+  unfolding onward
+  walk-copy e q = rw q at walk-turn
+
+pub walk-out : (h : Head) (card : List ℕ) (x t r b k : ℕ) (w : Trip) → r ≡ h .n → walkScan h card x t (h .n - r) r b k ≡ w → trip 0 Damage ≡ w
+unfolding walkScan
+walk-out h card x t r b k w e inv = let z : h .n - r ≡ 0 = omega arith in rw z at inv
