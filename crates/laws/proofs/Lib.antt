@@ -2,4 +2,5 @@ pub mod Tools
 pub mod Sectors
 pub mod Codec
 pub mod Run
+pub mod Heads
 pub mod Lists

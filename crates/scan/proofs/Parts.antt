@@ -64,33 +64,6 @@ search-part h card x t (suc b) k one long =
     (sectors-part (h .n) card (base h (suc b)) (h .m) 0 (h .m) long (omega arith)
     ∙ ap (λ (i : ℕ). sectors (h .n) card i (h .m)) (let z : base h (suc b) + 0 ≡ base h (suc b) = omega arith in z))
 
--- a card whose head is read has the length and the limits
-pub head-sized : (card : List ℕ) (h : Head) → headOf card ≡ some h → (length card ≡ sizeOf h) × (limits h ≡ true)
-unfolding headOf headIn
-head-sized card h q =
-    let f = headFields (sectorAt card 0) in
-    let g = guard-true (eqb (getD (sectorAt card 0) 0 0) 6 & zeros (take 8 (drop 8 (sectorAt card 0))) & limits f & eqb (length card) (sizeOf f)) f h q in
-    let a = and-true (eqb (getD (sectorAt card 0) 0 0) 6) (zeros (take 8 (drop 8 (sectorAt card 0))) & limits f & eqb (length card) (sizeOf f)) (g .0) in
-    let b = and-true (zeros (take 8 (drop 8 (sectorAt card 0)))) (limits f & eqb (length card) (sizeOf f)) (a .1) in
-    let c = and-true (limits f) (eqb (length card) (sizeOf f)) (b .1) in
-    subst (λ (z : Head). (length card ≡ sizeOf z) × (limits z ≡ true)) (g .1) (eqb-true (length card) (sizeOf f) (c .1), c .0)
-
--- bucket b, from 1 to n, lies on a card of the right length; and so does the log
-pub bucket-fits : (h : Head) (card : List ℕ) (b : ℕ) → length card ≡ sizeOf h → 1 ≤ b → b ≤ h .n → 16 * (base h b + h .m) ≤ length card
-unfolding sizeOf base
-bucket-fits h card b long one most =
-    let c = b - 1 in
-    let up : suc c ≤ h .n = omega arith in
-    let prod : h .m * suc c ≤ h .m * h .n = mul-le-mul-left (h .m) up in
-    let all : h .m * suc c ≡ h .m * c + h .m = mul-suc (h .m) c in
-    let flip : h .m * h .n ≡ h .n * h .m = mul-comm (h .m) (h .n) in
-    let more : h .n * (h .m + 1) ≡ h .n * h .m + h .n * 1 = mul-add (h .n) (h .m) 1 in
-    omega arith
-
-pub log-fits : (h : Head) (card : List ℕ) → length card ≡ sizeOf h → 16 * (1 + h .n) ≤ length card
-unfolding sizeOf
-log-fits h card long = let more : h .n * (h .m + 1) ≡ h .n * h .m + h .n * 1 = mul-add (h .n) (h .m) 1 in omega arith
-
 -- the entries that are read keep their row
 abbrev Fine : ℕ → Sector → Type 0
 Fine n Blank = Unit {0}

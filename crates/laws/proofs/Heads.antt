@@ -1,0 +1,78 @@
+-- What a head that is read says of its card: the limits and the length; where buckets and log lie on such a card.
+use mathlib.Core.Path.{_≡_, refl, sym, ap, subst}
+use mathlib.Core.Bool.{Bool, true, false}
+use mathlib.Core.Option.{Option, none, some}
+use mathlib.Core.List.{List}
+use Prim.Native.Nat.{ℕ, suc, _+_, _*_, _-_, _≤_, _<_}
+use native.Mathlib.Nat.{mul-le-mul-left, mul-add, mul-suc, mul-comm}
+use native.Mathlib.Omega.{arith}
+use lib.ListN.{length, getD}
+use lib.Dec.{leb, eqb}
+use borrow.Author.Tests.{leb-true, eqb-true}
+use Rattle.rules.specs.declared.Head.{Head}
+use Rattle.rules.specs.Plain.{if, _&_, within}
+use Rattle.rules.specs.Sector.{sectorAt, word}
+use Rattle.rules.specs.Layout.{limits, sizeOf, headFields, headIn, headOf, base}
+use Rattle.laws.proofs.Tools.{and-true, guard-true}
+
+pub record Lim (h : Head) : Type 0 where
+  pub m4 : 4 ≤ h .m
+  pub m32 : h .m ≤ 32
+  pub n2 : 2 ≤ h .n
+  pub n4096 : h .n ≤ 4096
+  pub td2 : 2 ≤ h .td
+  pub tdm : h .td ≤ h .m
+  pub ti4 : 4 ≤ h .ti
+  pub tim : h .ti ≤ h .m
+
+pub within-true : (lo x hi : ℕ) → within lo x hi ≡ true → (lo ≤ x) × (x ≤ hi)
+unfolding within
+within-true lo x hi e = let a = and-true (leb lo x) (leb x hi) e in (leb-true lo x (a .0), leb-true x hi (a .1))
+
+pub limits-hold : (h : Head) → limits h ≡ true → Lim h
+unfolding limits
+limits-hold h e =
+    let wm = within 4 (h .m) 32 in
+    let wn = within 2 (h .n) 4096 in
+    let wd = within 2 (h .td) (h .m) in
+    let wi = within 4 (h .ti) (h .m) in
+    let a = and-true wm (wn & wd & wi) e in
+    let b = and-true wn (wd & wi) (a .1) in
+    let c = and-true wd wi (b .1) in
+    let m = within-true 4 (h .m) 32 (a .0) in
+    let n = within-true 2 (h .n) 4096 (b .0) in
+    let td = within-true 2 (h .td) (h .m) (c .0) in
+    let ti = within-true 4 (h .ti) (h .m) (c .1) in
+    record { m4 = m .0; m32 = m .1; n2 = n .0; n4096 = n .1; td2 = td .0; tdm = td .1; ti4 = ti .0; tim = ti .1 }
+
+pub head-facts : (card : List ℕ) (h : Head) → headOf card ≡ some h → Lim h × (sizeOf h ≡ length card)
+unfolding headOf headIn
+head-facts card h q =
+    let s = sectorAt card 0 in
+    let f = headFields s in
+    let k = eqb (getD s 0 0) 6 in
+    let z = eqb (word s 8) 0 in
+    let y = eqb (word s 12) 0 in
+    let l = eqb (length card) (sizeOf f) in
+    let g = guard-true (k & z & y & limits f & l) f h q in
+    let a = and-true k (z & y & limits f & l) (g .0) in
+    let b = and-true z (y & limits f & l) (a .1) in
+    let c = and-true y (limits f & l) (b .1) in
+    let d = and-true (limits f) l (c .1) in
+    subst (λ (x : Head). Lim x × (sizeOf x ≡ length card)) (g .1) (limits-hold f (d .0), sym (eqb-true (length card) (sizeOf f) (d .1)))
+
+-- bucket b, from 1 to n, lies on a card of the right length; and so does the log
+pub bucket-fits : (h : Head) (card : List ℕ) (b : ℕ) → sizeOf h ≡ length card → 1 ≤ b → b ≤ h .n → 16 * (base h b + h .m) ≤ length card
+unfolding sizeOf base
+bucket-fits h card b long one most =
+    let c = b - 1 in
+    let up : suc c ≤ h .n = omega arith in
+    let prod : h .m * suc c ≤ h .m * h .n = mul-le-mul-left (h .m) up in
+    let all : h .m * suc c ≡ h .m * c + h .m = mul-suc (h .m) c in
+    let flip : h .m * h .n ≡ h .n * h .m = mul-comm (h .m) (h .n) in
+    let more : h .n * (h .m + 1) ≡ h .n * h .m + h .n * 1 = mul-add (h .n) (h .m) 1 in
+    omega arith
+
+pub log-fits : (h : Head) (card : List ℕ) → sizeOf h ≡ length card → 16 * (1 + h .n) ≤ length card
+unfolding sizeOf
+log-fits h card long = let more : h .n * (h .m + 1) ≡ h .n * h .m + h .n * 1 = mul-add (h .n) (h .m) 1 in omega arith
