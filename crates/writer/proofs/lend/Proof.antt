@@ -1,0 +1,51 @@
+-- `writer::lend` changes the sixteen bytes of one sector.
+use Rattle.writer.specs.Words.{fourWords}
+use mathlib.Core.Path.{_≡_}
+use Prim.Native.Nat.{_+_, _*_, _-_}
+use native.Mathlib.Omega.{arith}
+use Rattle.rules.specs.Sector.{put}
+use Rattle.writer.proofs.Laws.{lent-back}
+use borrow.Author.Needs.{needs}
+use Rattle.writer.proofs.lend.Statement.{statement}
+use Rattle.writer.proofs.lend.Tie as tie
+
+mul-a : tie.Need-mul-a
+mul-a c = search needs
+
+add-write-sector : tie.Need-add-write-sector
+add-write-sector c = search needs
+
+sub-write-sector : tie.Need-sub-write-sector
+sub-write-sector c = search needs
+
+part-write-sector-start : tie.Need-part-write-sector-start
+part-write-sector-start c = search needs
+
+part-write-sector-end : tie.Need-part-write-sector-end
+part-write-sector-end c = search needs
+
+write-sector-requires : tie.Need-write-sector-requires
+write-sector-requires c κs = search needs
+
+same-length : tie.Need-same-length
+same-length c = search needs
+
+returns : tie.Need-returns
+unfolding put
+returns c =
+    let a = c .before .before .before .before .before .args in
+    let k : 16 * a .i + 16 - 16 * a .i ≡ 16 = omega arith in
+    rw (k, c .before .before .write-sector .ensures) (lent-back (a .card .now) (fourWords (a .first) (a .key) (a .stamp) (a .value)) (a .i))
+
+pub lend-spec : {M : Type 1} → statement M
+lend-spec =
+    tie.close
+    (tie.spec
+    mul-a
+    add-write-sector
+    sub-write-sector
+    part-write-sector-start
+    part-write-sector-end
+    write-sector-requires
+    same-length
+    returns)

@@ -1,0 +1,21 @@
+-- `writer::write_entry` lays down an entry's bytes.
+use mathlib.Core.Path.{ap, _∙_}
+use Rattle.rules.specs.Sector.{put}
+use Rattle.writer.proofs.Laws.{entry-words}
+use borrow.Author.Needs.{needs}
+use Rattle.writer.proofs.write_entry.Statement.{statement}
+use Rattle.writer.proofs.write_entry.Tie as tie
+
+lend-requires : tie.Need-lend-requires
+lend-requires c κs = search needs
+
+same-length : tie.Need-same-length
+same-length c = search needs
+
+returns : tie.Need-returns
+returns c =
+    let a = c .before .before .before .before .before .args in
+    c .before .before .lend .ensures ∙ ap (put (a .card .now) (a .i)) (entry-words (a .e) (c .before .before .before .before .before .pre .1))
+
+pub write-entry-spec : {M : Type 1} → statement M
+write-entry-spec = tie.close (tie.spec lend-requires same-length returns)
