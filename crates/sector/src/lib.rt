@@ -2,7 +2,7 @@
 ghost use mathlib.Core.Path.{_≡_};
 ghost use Prim.Native.Nat.{_+_, _*_, _≤_};
 ghost use lib.ListN.{length};
-ghost use lib.Dec.{leb};
+ghost use lib.Dec.{leb, eqb};
 ghost use Rattle.rules.specs.Plain.{_&_, zeros};
 ghost use Rattle.rules.specs.Sector.{word, decode, legal};
 ghost use Rattle.scan.specs.Words.{entry, judged};
@@ -101,22 +101,25 @@ pub fn decode(s: &[u8], n: usize) -> Sector
     judge(n, head, key, stamp, value)
 }
 
-fn wide(x: u8) -> u32
-    ensures { λ r. ⌜ (r ≡ x) × (r ≤ 255) ⌝ }
+// The larger of two bytes: zero only where both are.
+fn larger(a: u8, b: u8) -> u8
+    ensures { λ r. ⌜ eqb r 0 ≡ (eqb a 0 & eqb b 0) ⌝ }
 {
-    x as u32
+    if a < b {
+        return b;
+    }
+    a
 }
 
-// Whether every byte is zero. The bytes are added up, with no way out before the end: so many are added at once.
+// Whether every byte is zero. The loop keeps the largest byte and has no way out before the end: so many bytes are compared at once.
 pub fn all_zero(s: &[u8]) -> bool
-    requires { ⌜ length (now s) ≤ 16777216 ⌝ }
     ensures { λ r. ⌜ r ≡ zeros (now (s .entry)) ⌝ }
 {
-    let mut sum: u32 = 0;
+    let mut top: u8 = 0;
     let mut i: usize = 0;
     while i < s.len() {
-        sum += wide(s[i]);
+        top = larger(top, s[i]);
         i += 1;
     }
-    sum == 0
+    top == 0
 }
