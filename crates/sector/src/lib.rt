@@ -1,0 +1,125 @@
+// Sixteen bytes of a card, read and judged.
+ghost use mathlib.Core.Path.{_≡_};
+ghost use Prim.Native.Nat.{_+_, _*_, _≤_};
+ghost use lib.ListN.{length};
+ghost use lib.Dec.{leb, eqb};
+ghost use Rattle.rules.specs.Plain.{_&_, zeros};
+ghost use Rattle.rules.specs.Sector.{word, decode, legal};
+ghost use Rattle.scan.specs.Words.{entry, judged};
+use rules::Entry;
+use rules::Sector;
+
+// Four bytes, low first.
+fn joined(a: u8, b: u8, c: u8, d: u8) -> u32
+    ensures { λ r. ⌜ r ≡ a + 256 * b + 65536 * c + 16777216 * d ⌝ }
+{
+    a as u32 + 256 * (b as u32) + 65536 * (c as u32) + 16777216 * (d as u32)
+}
+
+// The number of 32 bits in the four bytes from `at`.
+pub fn read_word(s: &[u8], at: usize) -> u32
+    requires { ⌜ at + 4 ≤ length (now s) ⌝ }
+    ensures { λ r. ⌜ r ≡ word (now (s .entry)) at ⌝ }
+{
+    joined(s[at], s[at + 1], s[at + 2], s[at + 3])
+}
+
+// Whether the fields keep their row of the table, on a card of n buckets.
+fn keeps_row(n: usize, kind: u32, key: u32, stamp: u32, value: u32) -> bool
+    ensures { λ r. ⌜ r ≡ legal n (entry kind key stamp value) ⌝ }
+{
+    if kind == 1 {
+        if 1 <= key {
+            return 1 <= stamp;
+        }
+        return false;
+    }
+    if kind == 2 {
+        if value == 0 {
+            if 1 <= key {
+                return true;
+            }
+            return stamp == 0;
+        }
+        return false;
+    }
+    if kind == 3 {
+        return names_bucket(n, value);
+    }
+    if kind == 4 {
+        if key == 0 {
+            return names_bucket(n, value);
+        }
+        return false;
+    }
+    false
+}
+
+// Whether a value names one of n buckets.
+fn names_bucket(n: usize, value: u32) -> bool
+    ensures { λ r. ⌜ r ≡ (leb 1 value & leb value n) ⌝ }
+{
+    if 1 <= value {
+        return value as usize <= n;
+    }
+    false
+}
+
+// What four words of a sector are.
+fn judge(n: usize, head: u32, key: u32, stamp: u32, value: u32) -> Sector
+    ensures { λ r. ⌜ r ≡ judged n head key stamp value ⌝ }
+{
+    if keeps_row(n, head, key, stamp, value) {
+        return Sector::Held(Entry {
+            kind: head,
+            key,
+            stamp,
+            value,
+        });
+    }
+    if head == 0 {
+        if key == 0 {
+            if stamp == 0 {
+                if value == 0 {
+                    return Sector::Blank;
+                }
+            }
+        }
+    }
+    Sector::Damaged
+}
+
+// What a sector is, on a card of n buckets. Bytes 0..3 are read as one word: it is a kind of the table only where bytes 1..3 are zero.
+pub fn decode(s: &[u8], n: usize) -> Sector
+    requires { ⌜ length (now s) ≡ 16 ⌝ }
+    ensures { λ r. ⌜ r ≡ decode n (now (s .entry)) ⌝ }
+{
+    let head = read_word(s, 0);
+    let key = read_word(s, 4);
+    let stamp = read_word(s, 8);
+    let value = read_word(s, 12);
+    judge(n, head, key, stamp, value)
+}
+
+// The larger of two bytes: zero only where both are.
+fn larger(a: u8, b: u8) -> u8
+    ensures { λ r. ⌜ eqb r 0 ≡ (eqb a 0 & eqb b 0) ⌝ }
+{
+    if a < b {
+        return b;
+    }
+    a
+}
+
+// Whether every byte is zero. The loop keeps the largest byte and has no way out before the end: so many bytes are compared at once.
+pub fn all_zero(s: &[u8]) -> bool
+    ensures { λ r. ⌜ r ≡ zeros (now (s .entry)) ⌝ }
+{
+    let mut top: u8 = 0;
+    let mut i: usize = 0;
+    while i < s.len() {
+        top = larger(top, s[i]);
+        i += 1;
+    }
+    top == 0
+}
