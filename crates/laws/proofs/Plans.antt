@@ -28,6 +28,10 @@ pub or-false : (a b : Bool) → a or b ≡ false → (a ≡ false) × (b ≡ fal
 or-false true b q = (q, cc)
 or-false false b q = (refl, q)
 
+pub not-false : (a : Bool) → not a ≡ false → a ≡ true
+not-false true q = refl
+not-false false q = cc
+
 from-one : (x : ℕ) → (x ≡ 0 → ⊥) → 1 ≤ x
 from-one zero n = absurd (n refl)
 from-one (suc x) n = omega arith
