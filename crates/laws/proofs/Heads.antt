@@ -1,16 +1,16 @@
 -- What a head that is read says of its card: the limits and the length; where buckets and log lie on such a card.
-use mathlib.Core.Path.{_≡_, refl, sym, ap, subst}
-use mathlib.Core.Bool.{Bool, true, false}
-use mathlib.Core.Option.{Option, none, some}
+use mathlib.Core.Path.{_≡_, sym, subst}
+use mathlib.Core.Bool.{true}
+use mathlib.Core.Option.{some}
 use mathlib.Core.List.{List}
-use Prim.Native.Nat.{ℕ, suc, _+_, _*_, _-_, _≤_, _<_}
+use Prim.Native.Nat.{ℕ, suc, _+_, _*_, _-_, _≤_}
 use native.Mathlib.Nat.{mul-le-mul-left, mul-add, mul-suc, mul-comm}
 use native.Mathlib.Omega.{arith}
 use lib.ListN.{length, getD}
 use lib.Dec.{leb, eqb}
 use borrow.Author.Tests.{leb-true, eqb-true}
 use Rattle.rules.specs.declared.Head.{Head}
-use Rattle.rules.specs.Plain.{if, _&_, within}
+use Rattle.rules.specs.Plain.{_&_, within}
 use Rattle.rules.specs.Sector.{sectorAt, word}
 use Rattle.rules.specs.Layout.{limits, sizeOf, headFields, headIn, headOf, base}
 use Rattle.laws.proofs.Tools.{and-true, guard-true}

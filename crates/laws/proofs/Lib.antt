@@ -4,3 +4,16 @@ pub mod Codec
 pub mod Run
 pub mod Heads
 pub mod Lists
+pub mod Copies
+pub mod Halves
+pub mod Buckets
+pub mod Blocks
+pub mod Blanks
+pub mod Bytes
+pub mod Into
+pub mod Used
+pub mod Fresh
+pub mod Paths
+pub mod AsMet
+pub mod Plans
+pub mod Puts

@@ -1,19 +1,17 @@
 -- Entries of a bucket: what one more at the end changes in the last copy of a key and in the entry to follow.
 use mathlib.Core.Path.{_≡_, refl, ap, ap₂, sym, _∙_, subst}
-use mathlib.Core.Logic.{_⊎_, inl, inr, ⊎-elim}
+use mathlib.Core.Logic.{⊎-elim}
 use mathlib.Core.Bool.{Bool, true, false}
 use mathlib.Core.Option.{Option, none, some}
-use Prim.Native.Nat.{ℕ, zero, suc, _+_, _*_, _-_, _≤_, _<_, min}
+use Prim.Native.Nat.{ℕ, _≤_, _<_, min}
 use native.Mathlib.Omega.{arith}
-use mathlib.Core.List.{List, [], _∷_, _++_, append-assoc}
-use lib.ListN.{length}
+use mathlib.Core.List.{List, [], _∷_, _++_, append-nil}
 use lib.Dec.{leb, ltb, eqb}
-use borrow.Author.Tests.{leb-true, leb-false, ltb-true, ltb-false, eqb-true, eqb-false, lt-ltb, le-ltb, le-leb, lt-leb, eq-eqb, ne-eqb}
+use borrow.Author.Tests.{leb-true, lt-ltb, le-ltb, le-leb, lt-leb, eq-eqb, ne-eqb}
 use Rattle.rules.specs.declared.Entry.{Entry}
-use Rattle.rules.specs.Plain.{if, _&_, every, keepIf, only, lastOf, larger, largest}
-use Rattle.rules.specs.Sector.{isIndex}
-use Rattle.rules.specs.Walk.{left, follow, copyOf}
-use Rattle.laws.proofs.Tools.{and-true, none-some, le-or-lt, eq-or-ne, bool-cases, true-false, false-true}
+use Rattle.rules.specs.Plain.{if, keepIf, only, lastOf, larger, largest}
+use Rattle.rules.specs.Walk.{follow, copyOf}
+use Rattle.laws.proofs.Tools.{none-some, le-or-lt, true-false}
 
 keep-append : (b : Bool) (e : Entry) (xs ys : List Entry) → keepIf b e (xs ++ ys) ≡ keepIf b e xs ++ ys
 keep-append true e xs ys = refl
@@ -35,14 +33,10 @@ unfolding copyOf only
 copy-snoc-same x es e q =
     rw (only-append (λ d. eqb (d .key) x) es (e ∷ []), eq-eqb (e .key) x q) (last-snoc (only (λ d. eqb (d .key) x) es) e)
 
-app-nil : (xs : List Entry) → xs ++ [] ≡ xs
-app-nil [] = refl
-app-nil (x ∷ xs) = ap {B = List Entry} (λ r. x ∷ r) (app-nil xs)
-
 pub copy-snoc-other : (x : ℕ) (es : List Entry) (e : Entry) → (e .key ≡ x → ⊥) → copyOf x (es ++ (e ∷ [])) ≡ copyOf x es
 unfolding copyOf only
 copy-snoc-other x es e q =
-    rw (only-append (λ d. eqb (d .key) x) es (e ∷ []), ne-eqb (e .key) x q) (ap lastOf (app-nil (only (λ d. eqb (d .key) x) es)))
+    rw (only-append (λ d. eqb (d .key) x) es (e ∷ []), ne-eqb (e .key) x q) (ap lastOf (append-nil (only (λ d. eqb (d .key) x) es)))
 
 -- of the best so far and one more entry at the end
 abbrev pub top : Option Entry → Entry → Entry
@@ -78,7 +72,7 @@ follow-snoc-in x es p le =
 pub follow-snoc-out : (x : ℕ) (es : List Entry) (p : Entry) → x < p .key → follow x (es ++ (p ∷ [])) ≡ follow x es
 unfolding follow only
 follow-snoc-out x es p lt =
-    rw (only-append (λ d. leb (d .key) x) es (p ∷ []), lt-leb (p .key) x lt) (ap largest (app-nil (only (λ d. leb (d .key) x) es)))
+    rw (only-append (λ d. leb (d .key) x) es (p ∷ []), lt-leb (p .key) x lt) (ap largest (append-nil (only (λ d. leb (d .key) x) es)))
 
 -- the smaller of hi and the smallest key above x
 abbrev pub cut : Bool → ℕ → ℕ → ℕ
@@ -128,6 +122,14 @@ all-any P f (e ∷ es) = (f e, all-any P f es)
 pub all-append : (P : Entry → Type 0) (xs ys : List Entry) → All P xs → All P ys → All P (xs ++ ys)
 all-append P [] ys a b = b
 all-append P (x ∷ xs) ys a b = (a .0, all-append P xs ys (a .1) b)
+
+pub all-left : (P : Entry → Type 0) (ls bs : List Entry) → All P (ls ++ bs) → All P ls
+all-left P [] bs a = tt
+all-left P (e ∷ ls) bs a = (a .0, all-left P ls bs (a .1))
+
+pub all-right : (P : Entry → Type 0) (ls bs : List Entry) → All P (ls ++ bs) → All P bs
+all-right P [] bs a = a
+all-right P (e ∷ ls) bs a = all-right P ls bs (a .1)
 
 pub only-all : (P : Entry → Type 0) (q : Entry → Bool) (es : List Entry) → All P es → All P (only q es)
 unfolding only

@@ -1,13 +1,13 @@
 -- Sixteen bytes put at a sector change that sector alone, and keep the length.
-use mathlib.Core.Path.{_≡_, refl, ap, sym, _∙_, subst}
+use mathlib.Core.Path.{_≡_, ap, sym, _∙_}
 use mathlib.Core.Logic.{⊎-elim}
-use Prim.Native.Nat.{ℕ, zero, suc, _+_, _*_, _-_, _≤_, _<_, min}
-use Rattle.laws.proofs.Tools.{le-or-lt}
+use Prim.Native.Nat.{ℕ, _+_, _*_, _-_, _≤_, _<_}
 use native.Mathlib.Omega.{arith}
-use mathlib.Core.List.{List, [], _∷_, _++_, append-assoc}
+use mathlib.Core.List.{List, _++_, append-assoc}
 use lib.ListN.{length, take, drop, length-append, length-take, length-drop, take-append-drop}
-use lib.Seq.{length-take-le, take-at, drop-at, take-append-le, drop-append-le, drop-append-add, drop-drop}
+use lib.Seq.{length-take-le, take-at, drop-at, take-append-le, drop-append-le, drop-append-add}
 use Rattle.rules.specs.Sector.{sectorAt, put}
+use Rattle.laws.proofs.Tools.{le-or-lt}
 
 pub length-put : (card : List ℕ) (i : ℕ) (bs : List ℕ) → length bs ≡ 16 → 16 * i + 16 ≤ length card → length (put card i bs) ≡ length card
 unfolding put

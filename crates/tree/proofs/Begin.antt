@@ -1,0 +1,260 @@
+-- A formatted card answers for the empty history.
+use mathlib.Core.Path.{_∙_, _≡_, ap, ap₂, refl, subst, sym}
+use mathlib.Core.Logic.{inl, inr, ⊎-elim}
+use mathlib.Core.Bool.{false, true}
+use mathlib.Core.Option.{none, some}
+use Prim.Native.Nat.{_%_, _*_, _+_, _-_, _/_, _<_, _≤_, suc, zero, ℕ}
+use native.Mathlib.Omega.{arith}
+use native.Mathlib.Nat.{mul-le-mul-left}
+use mathlib.Core.List.{List, [], _∷_, _++_}
+use lib.ListN.{drop, length, take}
+use lib.Dec.{eqb}
+use borrow.Author.Tests.{eq-eqb, le-leb, le-ltb}
+use Rattle.rules.specs.declared.Entry.{Entry}
+use Rattle.rules.specs.declared.Head.{Head}
+use Rattle.rules.specs.Bucket.{blanksOf, bucket, log, onto, run, soundBucket, soundLog, joins}
+use Rattle.rules.specs.Layout.{base, headBytes, headFields, headIn, headOf, limits, sizeOf}
+use Rattle.rules.specs.Plain.{andThen, every, keepIf, larger, largest, lastOf, only, zeros}
+use Rattle.rules.specs.Rewrite.{into}
+use Rattle.rules.specs.Sector.{encode, isData, isIndex, isPost, isRoot, le4, legal, put, rootEntry, sectorAt, word, indexEntry}
+use Rattle.rules.specs.Walk.{copyOf, follow, standing}
+use Rattle.rules.specs.Format.{dummy}
+use Rattle.laws.proofs.Tools.{le-or-lt, none-some}
+use Rattle.laws.proofs.Lists.{upper, all-map}
+use Rattle.laws.proofs.Sectors.{length-put, sector-put-other, sector-put-same}
+use Rattle.laws.proofs.Codec.{length-encode}
+use Rattle.laws.proofs.Run.{blanks-agree, decode-put, run-agree}
+use Rattle.laws.proofs.Bytes.{Bytes, Fine, bytes-append, bytes-encode, bytes-le4, bytes-put}
+use Rattle.laws.proofs.Buckets.{bucket-raw, bucket-within, raw, run-past}
+use Rattle.laws.proofs.Into.{block-out}
+use Rattle.laws.proofs.Used.{get-zeros, run-blank, zeros-get}
+use Rattle.tree.proofs.Tree.{Tree}
+use Rattle.tree.proofs.Place.{Upto, upto-step}
+use Rattle.tree.proofs.Step.{root-fine}
+use Rattle.tree.proofs.Root.{State}
+use Rattle.tree.proofs.History.{Keeps, now, now-answers}
+use Rattle.tree.proofs.Ready.{Fresh, Ready, fresh-bucket}
+
+pub zero-bytes : (xs : List ℕ) → zeros xs ≡ true → Bytes xs
+unfolding zeros
+zero-bytes [] z = tt
+zero-bytes (zero ∷ xs) z = (omega arith, zero-bytes xs z)
+zero-bytes (suc x ∷ xs) z = absurd (let a = zeros-get (suc x ∷ xs) 0 z in omega arith)
+
+zero-drop : (n : ℕ) (xs : List ℕ) → zeros xs ≡ true → zeros (drop n xs) ≡ true
+zero-drop zero xs q = q
+zero-drop (suc n) [] q = q
+zero-drop (suc n) (x ∷ xs) q = zero-drop n xs (get-zeros xs (λ i. zeros-get (x ∷ xs) (suc i) q))
+
+zero-take : (n : ℕ) (xs : List ℕ) → zeros xs ≡ true → zeros (take n xs) ≡ true
+unfolding zeros
+zero-take zero xs q = refl
+zero-take (suc n) [] q = refl
+zero-take (suc n) (zero ∷ xs) q = zero-take n xs q
+zero-take (suc n) (suc x ∷ xs) q = absurd (let a = zeros-get (suc x ∷ xs) 0 q in omega arith)
+
+pub zero-sector : (card : List ℕ) (j : ℕ) → zeros card ≡ true → zeros (sectorAt card j) ≡ true
+unfolding sectorAt
+zero-sector card j z = zero-take 16 (drop (16 * j) card) (zero-drop (16 * j) card z)
+
+head-digits : (x : ℕ) → x ≤ 4096 → x % 256 + 256 * (x / 256 % 256) + 65536 * (x / 65536 % 256) + 16777216 * (x / 16777216) ≡ x
+head-digits x h = omega arith
+
+-- the head's bytes are read back
+head-read : (h : Head) (len : ℕ) → limits h ≡ true → h .n ≤ 4096 → len ≡ sizeOf h → headIn (headBytes h 0) len ≡ some h
+unfolding headIn headBytes headFields word le4 zeros
+head-read h len l n4 e =
+    let f : headFields (headBytes h 0) ≡ h = λ i. record { m = h .m; td = h .td; ti = h .ti; n = head-digits (h .n) n4 i } in
+    rw (f, l, eq-eqb len (sizeOf h) e)
+
+abbrev idx : Entry
+idx = indexEntry 0 0 2
+
+dummy-none : (x : ℕ) → standing (copyOf x (dummy ∷ [])) ≡ none
+unfolding standing copyOf only lastOf isPost
+dummy-none x = elim (eqb 0 x) as (λ b. standing (lastOf (keepIf b dummy [])) ≡ none) [ true ↦ refl | false ↦ refl ]
+
+module _ (h : Head) (lim : limits h ≡ true) (card : List ℕ) (size : sizeOf h ≡ length card) (bytes0 : Bytes card)
+    (front0 : (j : ℕ) → j < 1 + h .n → zeros (sectorAt card j) ≡ true) (blank0 : (c : ℕ) → 1 ≤ c → c ≤ h .n → raw h card c ≡ some [])
+    (room1 : 1 ≤ length (blanksOf h card 1)) (room2 : 1 ≤ length (blanksOf h card 2))
+    (n2 : 2 ≤ h .n) (n4096 : h .n ≤ 4096) (m4 : 4 ≤ h .m) (m32 : h .m ≤ 32) (tdm : h .td ≤ h .m) (tim : h .ti ≤ h .m) where
+  abbrev card1 : List ℕ
+  card1 = put card 0 (headBytes h 0)
+
+  abbrev root : Entry
+  root = rootEntry 0 1
+
+  abbrev card2 : List ℕ
+  card2 = put card1 1 (encode root)
+
+  length-head : length (headBytes h 0) ≡ 16
+  unfolding headBytes le4
+  length-head = refl
+
+  big : 16 * (1 + (h .n + h .n * h .m)) ≡ length card
+  unfolding sizeOf
+  big = omega (arith, size)
+
+  len1 : length card1 ≡ length card
+  len1 = length-put card 0 (headBytes h 0) length-head (omega (arith, big))
+
+  len2 : length card2 ≡ length card
+  len2 = length-put card1 1 (encode root) (length-encode root) (omega (arith, big, len1)) ∙ len1
+
+  bytes-head : Bytes (headBytes h 0)
+  unfolding headBytes
+  bytes-head = (
+    omega arith,
+    (
+      omega arith,
+      (
+        omega arith,
+        (
+          omega arith,
+          bytes-append (le4 (h .n)) (le4 0 ++ (0 ∷ 0 ∷ 0 ∷ 0 ∷ [])) (bytes-le4 (h .n) (omega arith))
+              (bytes-append (le4 0) (0 ∷ 0 ∷ 0 ∷ 0 ∷ []) (bytes-le4 0 (omega arith)) (omega arith, (omega arith, (omega arith, (omega arith, tt))))),
+        ),
+      ),
+    ),
+  )
+
+  fine-root : Fine (h .n) root
+  fine-root = root-fine (h .n) 0 1 (omega arith) (omega arith) (omega arith) n4096
+
+  bytes2 : Bytes card2
+  bytes2 = bytes-put card1 1 (encode root) (bytes-put card 0 (headBytes h 0) bytes0 bytes-head) (bytes-encode root (fine-root .0))
+
+  -- what the format writes first leaves the rest as it was
+  same1 : (j : ℕ) → 1 ≤ j → sectorAt card1 j ≡ sectorAt card j
+  same1 j lo = sector-put-other card 0 j (headBytes h 0) length-head (omega (arith, big)) (λ z. omega arith)
+
+  same2 : (j : ℕ) → 2 ≤ j → sectorAt card2 j ≡ sectorAt card j
+  same2 j lo = sector-put-other card1 1 j (encode root) (length-encode root) (omega (arith, big, len1)) (λ z. omega arith) ∙ same1 j (omega arith)
+
+  blank2 : (c : ℕ) → 1 ≤ c → c ≤ h .n → raw h card2 c ≡ some []
+  unfolding base
+  blank2 c p q = run-agree (h .n) card2 card (base h c) (h .m) (λ j a b. same2 j (omega arith)) ∙ blank0 c p q
+
+  past : (c : ℕ) → h .n < c → raw h card2 c ≡ some []
+  unfolding base
+  past c gt = run-past (h .n) card2 (base h c) (h .m) (let k : h .n ≤ c - 1 = omega arith in omega (arith, big, len2, mul-le-mul-left (h .m) k))
+
+  ready2 : Ready h card2 1
+  ready2 = record {
+    bytes = bytes2;
+    size = size ∙ sym len2;
+    blank = blank2;
+    whole = λ c p. ([], ⊎-elim (λ (le : c ≤ h .n). blank2 c p le) (λ (gt : h .n < c). past c gt) (le-or-lt c (h .n)));
+  }
+
+  rooms2 : (c : ℕ) → blanksOf h card2 c ≡ blanksOf h card c
+  unfolding blanksOf base
+  rooms2 c = blanks-agree card2 card (base h c) (h .m) (λ j a b. same2 j (omega arith))
+
+  log2 : log h card2 ≡ some (root ∷ [])
+  unfolding log soundLog every isRoot run onto
+  log2 = log-one (h .n) refl
+    where
+      rest : (c : ℕ) → c + 2 ≤ 1 + h .n → run (h .n) card2 2 c ≡ some []
+      rest c le = run-blank (h .n) card2 2 c (λ j p q. ap zeros (same2 j p) ∙ front0 j (omega arith))
+
+      log-one : (n : ℕ) → h .n ≡ n → andThen (run (h .n) card2 1 n) soundLog ≡ some (root ∷ [])
+      log-one zero e = absurd (omega arith)
+      log-one (suc c) e = rw (decode-put (h .n) card1 root (fine-root .0) (fine-root .1) 1 1 refl (omega (arith, big, len1)), rest c (omega arith))
+
+  none2 : Upto 0 (bucket h card2)
+  unfolding soundBucket
+  none2 c cs q =
+      let r = bucket-raw h card2 c cs q in
+      let w = bucket-within h card2 c cs (ready2 .size) q in
+      let e : cs ≡ [] = cc (r .1, ready2 .blank c (r .0) w) in
+      absurd (none-some (ap soundBucket (sym e) ∙ r .2))
+
+  fine-idx : Fine (h .n) idx
+  unfolding legal
+  fine-idx = (record { kind = omega arith; key = omega arith; stamp = omega arith; value = omega arith }, le-leb 2 (h .n) n2)
+
+  fine-dummy : Fine (h .n) dummy
+  unfolding legal
+  fine-dummy = (record { kind = omega arith; key = omega arith; stamp = omega arith; value = omega arith }, refl)
+
+  sound-idx : soundBucket (idx ∷ []) ≡ some (idx ∷ [])
+  unfolding soundBucket every joins isIndex
+  sound-idx = refl
+
+  sound-dummy : soundBucket (dummy ∷ []) ≡ some (dummy ∷ [])
+  unfolding soundBucket every joins isIndex isData
+  sound-dummy = refl
+
+  abbrev card3 : List ℕ
+  card3 = into h 1 (idx ∷ []) card2
+
+  abbrev card4 : List ℕ
+  card4 = into h 2 (dummy ∷ []) card3
+
+  fb1 : Fresh h card2 card3 1 (idx ∷ [])
+  fb1 = fresh-bucket h card2 1 1 (idx ∷ []) ready2 (omega arith) (omega arith) (omega arith) (subst (λ z. 1 ≤ length z) (sym (rooms2 1)) room1) (fine-idx .0, fine-idx .1, tt) sound-idx
+
+  rooms3 : blanksOf h card3 2 ≡ blanksOf h card2 2
+  unfolding blanksOf base
+  rooms3 = blanks-agree card3 card2 (base h 2) (h .m) (λ j a b. block-out h card2 (ready2 .size) 1 (omega arith) (omega arith) (idx ∷ []) j (inr (omega arith)))
+
+  fb2 : Fresh h card3 card4 2 (dummy ∷ [])
+  fb2 = fresh-bucket h card3 2 2 (dummy ∷ []) (fb1 .ready) (omega arith) (omega arith) (omega arith) (subst (λ z. 1 ≤ length z) (sym (rooms3 ∙ rooms2 2)) room2) (fine-dummy .0, fine-dummy .1, tt) sound-dummy
+
+  front4 : (j : ℕ) → j < 1 + h .n → sectorAt card4 j ≡ sectorAt card2 j
+  front4 j lt = fb2 .front j lt ∙ fb1 .front j lt
+
+  head4 : headOf card4 ≡ some h
+  unfolding headOf
+  head4 =
+      ap₂ headIn
+      (front4 0 (omega arith) ∙ sector-put-other card1 1 0 (encode root) (length-encode root) (omega (arith, big, len1)) (λ z. omega arith)
+      ∙ sector-put-same card 0 (headBytes h 0) length-head (omega (arith, big)))
+      (sym (fb2 .ready .size))
+      ∙ head-read h (sizeOf h) lim n4096 refl
+
+  tree4 : Tree (bucket h card4) (now []) 1 1 0 4294967296
+  unfolding follow only largest larger upper isIndex isData
+  tree4 = (
+    idx ∷ [],
+    fb2 .same 1 (idx ∷ []) (fb1 .here),
+    (refl, ((refl, omega arith, omega arith, refl), tt)),
+    λ x p q. (
+      idx,
+      rw (le-leb 0 x (omega arith)),
+      rw (le-ltb x 0 (omega arith))
+          (dummy ∷ [], fb2 .here, (refl, ((refl, omega arith, omega arith, refl), tt)), λ y a b. dummy-none y),
+    ),
+  )
+
+  upto4 : Upto 0 (bucket h card4)
+  upto4 = upto-step 0 (bucket h card3) (bucket h card4) 2 (dummy ∷ [])
+      (upto-step 0 (bucket h card2) (bucket h card3) 1 (idx ∷ []) none2 (fb1 .here) (omega arith, tt) (fb1 .others)) (fb2 .here) (omega arith, tt) (fb2 .others)
+
+  state4 : State h card4 (now []) 1
+  unfolding lastOf log
+  state4 = record {
+    bytes = fb2 .ready .bytes;
+    head = head4;
+    logs = root ∷ [];
+    log-is = ap (λ z. andThen z soundLog) (run-agree (h .n) card4 card2 1 (h .n) (λ j p q. front4 j (omega arith))) ∙ log2;
+    last = root;
+    last-is = refl;
+    tree = tree4;
+    whole = fb2 .ready .whole;
+    tall = (2, dummy ∷ [], fb2 .here, omega arith);
+  }
+
+  pub begun : Keeps h card4 [] 0
+  unfolding state4
+  begun = record {
+    height = 1;
+    state = state4;
+    upto = upto4;
+    mark = inl refl;
+    logs-upto = (omega arith, tt);
+    past = tt;
+    answers = λ t x lt. now-answers h card4 (now []) 1 state4 t
+        (λ c cs q. all-map (λ e. e .stamp ≤ 0) (λ e. e .stamp ≤ t) (λ e l. omega arith) cs (upto4 c cs q)) (omega arith, tt) x lt;
+  }

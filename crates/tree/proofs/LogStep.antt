@@ -1,0 +1,83 @@
+-- A root entry put at the log's first blank.
+use mathlib.Core.Path.{_∙_, _≡_, ap, refl, sym}
+use mathlib.Core.Logic.{_⊎_, inl, inr, ⊎-elim}
+use mathlib.Core.Bool.{true}
+use mathlib.Core.Option.{some}
+use Prim.Native.Nat.{_+_, _<_, _≤_, suc, zero, ℕ}
+use native.Mathlib.Omega.{arith}
+use mathlib.Core.List.{List, [], _++_, _∷_}
+use lib.ListN.{length}
+use Rattle.rules.specs.declared.Entry.{Entry}
+use Rattle.rules.specs.declared.Head.{Head}
+use Rattle.rules.specs.Bucket.{blanks, bucket, log, logBlanks, run, soundBucket, soundLog}
+use Rattle.rules.specs.Layout.{base, sizeOf}
+use Rattle.rules.specs.Plain.{andThen, every, zeros}
+use Rattle.rules.specs.Rewrite.{fill}
+use Rattle.rules.specs.Sector.{isRoot, sectorAt}
+use Rattle.laws.proofs.Tools.{guard-true, none-some, then-inv, true-false}
+use Rattle.laws.proofs.Run.{run-agree}
+use Rattle.laws.proofs.Buckets.{every-snoc, raw}
+use Rattle.laws.proofs.Blocks.{Each, Good, Lies, blanks-each, fill-other, fill-run, length-fill}
+use Rattle.laws.proofs.Bytes.{Fine, bytes-fill}
+use Rattle.laws.proofs.Into.{Stays}
+use Rattle.tree.proofs.Ready.{Ready}
+
+-- what is read of the log, by its sectors
+soundLog-inv : (es gs : List Entry) → soundLog es ≡ some gs → (es ≡ gs) × (every isRoot gs ≡ true)
+unfolding soundLog
+soundLog-inv [] gs q = absurd (none-some q)
+soundLog-inv (e ∷ es) gs q =
+    let t = guard-true (every isRoot (e ∷ es)) (e ∷ es) gs q in
+    (t .1, ap (every isRoot) (sym (t .1)) ∙ t .0)
+
+pub log-raw : (h : Head) (card : List ℕ) (lg : List Entry) → log h card ≡ some lg → (run (h .n) card 1 (h .n) ≡ some lg) × (every isRoot lg ≡ true)
+unfolding log
+log-raw h card lg q =
+    let inv = then-inv (run (h .n) card 1 (h .n)) soundLog lg q in
+    let s = soundLog-inv (inv .0) lg (inv .2) in
+    (inv .1 ∙ ap some (s .0), s .1)
+
+soundLog-snoc : (lg : List Entry) (r : Entry) → every isRoot lg ≡ true → isRoot r ≡ true → soundLog (lg ++ (r ∷ [])) ≡ some (lg ++ (r ∷ []))
+unfolding soundLog
+soundLog-snoc [] r a b = rw (every-snoc isRoot [] r a b)
+soundLog-snoc (x ∷ lg) r a b = rw (every-snoc isRoot (x ∷ lg) r a b)
+
+pub record Logged (h : Head) (card card' : List ℕ) (f : ℕ) (lg : List Entry) : Type 0 where
+  pub ready : Ready h card' f
+  pub stays : Stays card card'
+  pub head : sectorAt card' 0 ≡ sectorAt card 0
+  pub logged : log h card' ≡ some lg
+  pub same : (c : ℕ) → bucket h card' c ≡ bucket h card c
+
+pub log-step : (h : Head) (card : List ℕ) (f : ℕ) (lg : List Entry) (r : Entry) → Ready h card f → log h card ≡ some lg → 1 ≤ length (logBlanks h card)
+    → Fine (h .n) r → isRoot r ≡ true → Logged h card (fill card (logBlanks h card) (r ∷ [])) f (lg ++ (r ∷ []))
+unfolding log logBlanks bucket sizeOf base
+log-step h card f lg r rdy q room fine root =
+    let size = rdy .size in
+    let inv = log-raw h card lg q in
+    let is = blanks card 1 (h .n) in
+    let card' = fill card is (r ∷ []) in
+    let good : Good (h .n) (r ∷ []) = (fine .0, fine .1, tt) in
+    let lies : Each (Lies card) is = blanks-each (Lies card) card 1 (h .n) (λ j p z y. omega arith) in
+    let other : (j : ℕ) → (j < 1) ⊎ (1 + h .n ≤ j) → sectorAt card' j ≡ sectorAt card j
+    = λ j out. fill-other card is (r ∷ []) j lies
+    (blanks-each (λ i. j ≡ i → ⊥) card 1 (h .n) (λ i p z y e. ⊎-elim (λ (l : j < 1). omega arith) (λ (g : 1 + h .n ≤ j). omega arith) out)) in
+    let rawsame : (c : ℕ) → raw h card' c ≡ raw h card c
+    = λ c. run-agree (h .n) card' card (base h c) (h .m) (λ j p z. other j (inr (omega arith))) in
+    record {
+      ready = record {
+        bytes = bytes-fill (h .n) card is (r ∷ []) (rdy .bytes) good;
+        size = size ∙ sym (length-fill card is (r ∷ []) lies);
+        blank = λ c a b. rawsame c ∙ rdy .blank c a b;
+        whole = λ c a. let w = rdy .whole c a in (w .0, rawsame c ∙ w .1);
+      };
+      stays = λ j z. fill-other card is (r ∷ []) j lies
+          (blanks-each (λ i. j ≡ i → ⊥) card 1 (h .n) (λ i p w y e. true-false (sym y ∙ ap (λ k. zeros (sectorAt card k)) (sym e) ∙ z)));
+      head = other 0 (inl (omega arith));
+      logged = rw (fill-run (h .n) card 1 (h .n) lg (r ∷ []) good (omega arith) room (inv .0)) (soundLog-snoc lg r (inv .1) root);
+      same = λ c. buckets c (rawsame c);
+    }
+  where
+    buckets : (c : ℕ) → raw h (fill card (blanks card 1 (h .n)) (r ∷ [])) c ≡ raw h card c → bucket h (fill card (blanks card 1 (h .n)) (r ∷ [])) c ≡ bucket h card c
+    buckets zero e = refl
+    buckets (suc c) e = ap (λ z. andThen z soundBucket) e

@@ -1,0 +1,210 @@
+-- An accepted write takes a card in order to a card in order that holds the new entry, and adds only what is stamped with it.
+use mathlib.Core.Path.{_∙_, _≡_, ap, refl, subst, sym}
+use mathlib.Core.Logic.{inl, inr}
+use mathlib.Core.Bool.{false, true}
+use mathlib.Core.Option.{Option, some}
+use Prim.Native.Nat.{_+_, _<_, _≤_, suc, ℕ}
+use native.Mathlib.Omega.{arith}
+use mathlib.Core.List.{List, [], _++_, _∷_, append-nil}
+use lib.ListN.{length}
+use borrow.Author.Tests.{le-leb, eqb-false}
+use lib.Dec.{eqb}
+use Rattle.rules.specs.declared.Entry.{Entry}
+use Rattle.rules.specs.declared.Head.{Head}
+use Rattle.rules.specs.Bucket.{blanksOf, bucket, log, logBlanks}
+use Rattle.rules.specs.Layout.{base, sizeOf}
+use Rattle.rules.specs.Plain.{every}
+use Rattle.rules.specs.Rewrite.{Rise, fill, into, oneBucket}
+use Rattle.rules.specs.Sector.{isData, isIndex, isRoot, legal, rootEntry}
+use Rattle.rules.specs.Walk.{Visit, path}
+use Rattle.rules.specs.Write.{accept, climb, finish, logFull, logged, planOn, rooted, topUsed}
+use Rattle.laws.proofs.Tools.{true-and}
+use Rattle.laws.proofs.Lists.{All, last-snoc}
+use Rattle.laws.proofs.Blocks.{blank-room}
+use Rattle.laws.proofs.Bytes.{Fine}
+use Rattle.laws.proofs.Buckets.{bucket-raw, bucket-within}
+use Rattle.laws.proofs.Fresh.{rooted-fresh}
+use Rattle.laws.proofs.Heads.{Lim, head-facts}
+use Rattle.laws.proofs.Into.{Stays, stays-trans}
+use Rattle.laws.proofs.Plans.{checked-inv}
+use Rattle.laws.proofs.Used.{used-top}
+use Rattle.tree.proofs.AsOf.{Grows, Late}
+use Rattle.tree.proofs.Tree.{Shape, Tree, tree-fresh}
+use Rattle.tree.proofs.Content.{shape-sound, tree-parts}
+use Rattle.tree.proofs.Place.{Closed, Mark, One, Open, Outcome, Two, Upto, upto-step}
+use Rattle.tree.proofs.Placed.{late-nil}
+use Rattle.tree.proofs.Climb.{climb-fresh, climb-tree, start, upd}
+use Rattle.tree.proofs.LogStep.{log-step}
+use Rattle.tree.proofs.Root.{State, early-max, head-same, kids-pair, log-blanks-same, log-same}
+use Rattle.tree.proofs.Ready.{fresh-bucket, ready-top}
+
+-- what an accepted write with the stamp s gives
+pub record Wrote (h : Head) (card card' : List ℕ) (g' : ℕ → Option Entry) (s : ℕ) (lg : List Entry) : Type 0 where
+  pub height : ℕ
+  pub state : State h card' g' height
+  pub grows : Grows s (bucket h card) (bucket h card')
+  pub upto : Upto s (bucket h card')
+  pub mark : Mark s (bucket h card')
+  pub stays : Stays card card'
+  pub new-log : List Entry
+  pub log-grows : (log h card' ≡ some (lg ++ new-log)) × Late s new-log × All (λ e. e .stamp ≤ s) new-log
+
+all-grows : (h : Head) (card card' : List ℕ) (s : ℕ) → ((c : ℕ) (cs : List Entry) → bucket h card c ≡ some cs → bucket h card' c ≡ some cs) → Grows s (bucket h card) (bucket h card')
+all-grows h card card' s f c cs q = ([], f c cs q ∙ ap some (sym (append-nil cs)), late-nil s)
+
+pub root-fine : (n s b : ℕ) → s < 4294967296 → 1 ≤ b → b ≤ n → n ≤ 4096 → Fine n (rootEntry s b)
+unfolding legal
+root-fine n s b sl lo hi nn = (record { kind = omega arith; key = omega arith; stamp = sl; value = omega arith }, true-and (le-leb 1 b lo) (le-leb b n hi))
+
+pub is-root : (s b : ℕ) → isRoot (rootEntry s b) ≡ true
+unfolding isRoot
+is-root s b = refl
+
+late-root : (s b : ℕ) → Late s (rootEntry s b ∷ [])
+unfolding every
+late-root s b = true-and (le-leb s s (omega arith)) refl
+
+module _ (h : Head) (card : List ℕ) (g g' : ℕ → Option Entry) (k s : ℕ) (st : State h card g k) (s32 : s < 4294967296) where
+  lim : Lim h
+  lim = head-facts card h (st .head) .0
+
+  size : sizeOf h ≡ length card
+  size = head-facts card h (st .head) .1
+
+  -- the same root, with one bucket changed
+  closed-state : (card' : List ℕ) (f : ℕ) → Closed h card card' g g' k (st .last .value) 0 4294967296 s f → Wrote h card card' g' s (st .logs)
+  closed-state card' f c =
+      let tb = st .tall in
+      let gr = c .grows (tb .0) (tb .1) (tb .2) in
+      let ls = log-same h card card' (c .front) ∙ st .log-is in
+      record {
+        height = k;
+        state = record {
+          bytes = c .ready .bytes;
+          head = head-same card card' (c .front 0 (omega arith)) (sym (c .ready .size) ∙ size) ∙ st .head;
+          logs = st .logs;
+          log-is = ls;
+          last = st .last;
+          last-is = st .last-is;
+          tree = c .tree;
+          whole = c .ready .whole;
+          tall = (tb .0, tb .1 ++ gr .0, gr .1, tb .3);
+        };
+        grows = c .grows;
+        upto = c .upto;
+        mark = c .mark;
+        stays = c .stays;
+        new-log = [];
+        log-grows = (ls ∙ ap some (sym (append-nil (st .logs))), late-nil s, tt);
+      }
+
+  -- a new root b of height k' in the card card1, logged
+  log-state : (card1 : List ℕ) (f b k' : ℕ) (es : List Entry) → Open h card card1 s f → 1 ≤ length (logBlanks h card1) → bucket h card1 b ≡ some es
+      → Tree (bucket h card1) g' k' b 0 4294967296 → (c : ℕ) × (cs : List Entry) × (bucket h card1 c ≡ some cs) × (k' + 1 ≤ c)
+      → Wrote h card (fill card1 (logBlanks h card1) (rootEntry s b ∷ [])) g' s (st .logs)
+  log-state card1 f b k' es op room bq tr tb =
+      let ls = log-same h card card1 (op .front) ∙ st .log-is in
+      let r = bucket-raw h card1 b es bq in
+      let w = bucket-within h card1 b es (op .ready .size) bq in
+      let lg = log-step h card1 f (st .logs) (rootEntry s b) (op .ready) ls room (root-fine (h .n) s b s32 (r .0) w (lim .n4096)) (is-root s b) in
+      let card' = fill card1 (logBlanks h card1) (rootEntry s b ∷ []) in
+      let same : (c : ℕ) (cs : List Entry) → bucket h card1 c ≡ some cs → bucket h card' c ≡ some cs = λ c cs q. lg .same c ∙ q in
+      record {
+        height = k';
+        state = record {
+          bytes = lg .ready .bytes;
+          head = head-same card card' (lg .head ∙ op .front 0 (omega arith)) (sym (lg .ready .size) ∙ size) ∙ st .head;
+          logs = st .logs ++ (rootEntry s b ∷ []);
+          log-is = lg .logged;
+          last = rootEntry s b;
+          last-is = last-snoc (st .logs) (rootEntry s b);
+          tree = tree-fresh (bucket h card1) (bucket h card') g' same k' b 0 4294967296 tr;
+          whole = lg .ready .whole;
+          tall = (tb .0, tb .1, same (tb .0) (tb .1) (tb .2), tb .3);
+        };
+        grows = all-grows h card card' s (λ c cs q. same c cs (op .same c cs q));
+        mark = (let m = op .mark in (m .0, m .1, same (m .0) (m .1) (m .2), m .3));
+        stays = stays-trans card card1 card' (op .stays) (lg .stays);
+        upto = λ c cs q. op .upto c cs (sym (lg .same c) ∙ q);
+        new-log = rootEntry s b ∷ [];
+        log-grows = (lg .logged, late-root s b, (omega arith, tt));
+      }
+
+  one-state : (r : Rise) (p : Entry) → 1 ≤ length (logBlanks h (r .card)) → One h card (r .card) g' k 0 4294967296 s (r .fresh) p
+      → Wrote h card (fill (r .card) (logBlanks h (r .card)) (rootEntry s (p .value) ∷ [])) g' s (st .logs)
+  one-state r p room o =
+      let tp = tree-parts (bucket h (r .card)) g' k (p .value) 0 4294967296 (o .tree1) in
+      let tb = st .tall in
+      log-state (r .card) (r .fresh) (p .value) k (tp .0) (o .opened) room (tp .1) (o .tree1) (tb .0, tb .1, o .opened .same (tb .0) (tb .1) (tb .2), tb .3)
+
+  -- a root above two buckets, in the fresh bucket f
+  two-state : (r : Rise) (p q : Entry) (f : ℕ) → 1 ≤ length (logBlanks h (r .card)) → r .fresh ≤ f → f ≤ h .n → 2 ≤ length (blanksOf h (r .card) f) → k + 2 ≤ f
+      → Two h card (r .card) g' k 0 4294967296 s (r .fresh) p q
+      → Wrote h card (fill (into h f (p ∷ q ∷ []) (r .card)) (logBlanks h (into h f (p ∷ q ∷ []) (r .card))) (rootEntry s f ∷ [])) g' s (st .logs)
+  two-state r p q f room rf fn fr kf o =
+      let card1 = r .card in
+      let es : List Entry = p ∷ q ∷ [] in
+      let pr = o .pair1 in
+      let qr = o .pair2 in
+      let md = o .mid in
+      let pk = pr .0 in
+      let sh : Shape true 0 4294967296 es = (pk, ((pr .1, omega arith, omega arith, pr .1), ((qr .1, omega arith, omega arith, qr .1), tt))) in
+      let fb = fresh-bucket h card1 (r .fresh) f es (o .opened .ready) rf (omega arith) fn fr
+      (pr .2 .0, pr .2 .1, (qr .2 .0, qr .2 .1, tt)) (shape-sound true 0 4294967296 es sh) in
+      let card2 = into h f es card1 in
+      let op : Open h card card2 s (f + 1) = record { ready = fb .ready; upto = upto-step s (bucket h card1) (bucket h card2) f es (o .opened .upto) (fb .here) (let a = pr .3 in let b = qr .3 in (omega arith, (omega arith, tt))) (fb .others); mark = (let m = o .opened .mark in (m .0, m .1, fb .same (m .0) (m .1) (m .2), m .3)); stays = stays-trans card card1 card2 (o .opened .stays) (fb .stays); front = λ i lt. fb .front i lt ∙ o .opened .front i lt; same = λ c cs z. fb .same c cs (o .opened .same c cs z) } in
+      let tr : Tree (bucket h card2) g' (suc k) f 0 4294967296 = (
+        es,
+        fb .here,
+        sh,
+        kids-pair (bucket h card2) g' k 4294967296 p q pk (omega arith) (md .1)
+            (tree-fresh (bucket h card1) (bucket h card2) g' (fb .same) k (p .value) 0 (q .key) (o .tree1))
+            (tree-fresh (bucket h card1) (bucket h card2) g' (fb .same) k (q .value) (q .key) 4294967296 (o .tree2)),
+      ) in
+      log-state card2 (f + 1) f (suc k) es op (subst (λ z. 1 ≤ length z) (sym (log-blanks-same h card1 card2 (fb .front))) room) (fb .here) tr (f, es, fb .here, omega arith)
+
+module _ (h : Head) (card : List ℕ) (g g' : ℕ → Option Entry) (k s : ℕ) (st : State h card g k) (s32 : s < 4294967296) where
+  -- a log that is not full has a blank
+  log-room : (c : List ℕ) → eqb (length (logBlanks h c)) 0 ≡ false → 1 ≤ length (logBlanks h c)
+  log-room c q = let n = eqb-false (length (logBlanks h c)) 0 q in omega arith
+
+  abbrev End : Rise → List Entry → Type 0
+  End r top = (rooted h s top r) .fresh ≤ h .n + 1 → logFull h (r .card) top ≡ false → Wrote h card ((rooted h s top r) .card) g' s (st .logs)
+
+  ending : (r : Rise) → topUsed h card (h .n) + 1 ≤ r .fresh → k + 1 ≤ topUsed h card (h .n) → Outcome h card g g' k (st .last .value) 0 4294967296 s r → End r (r .hand)
+  unfolding rooted logged oneBucket logFull blanksOf
+  ending r ff tall (inl c) = subst (End r) (sym (c .0)) (λ cap room. closed-state h card g g' k s st s32 (r .card) (r .fresh) (c .1))
+  ending r ff tall (inr (inl c)) = subst (End r) (sym (c .1)) (λ cap room. one-state h card g g' k s st s32 r (c .0) (log-room (r .card) room) (c .2))
+  ending r ff tall (inr (inr c)) = subst (End r) (sym (c .2))
+      (λ cap room.
+      let m4 = head-facts card h (st .head) .0 .m4 in
+      let fr = blank-room (h .n) (r .card) (base h (r .fresh)) (h .m) (c .3 .opened .ready .blank (r .fresh) (omega arith) (omega arith)) in
+      two-state h card g g' k s st s32 r (c .0) (c .1) (r .fresh) (log-room (r .card) room) (omega arith) (omega arith) (omega arith) (omega arith) (c .3))
+
+-- an accepted write
+pub write-step : (h : Head) (card : List ℕ) (g : ℕ → Option Entry) (k : ℕ) (st : State h card g k) (e : Entry) → Fine (h .n) e → (isIndex e ≡ false) × (isData e ≡ true) → Upto (e .stamp) (bucket h card)
+    → (p : List Visit) × (path (bucket h card) 4294967295 (e .key) (h .n) (st .last .value) 0 ≡ some p)
+    × ((new : List ℕ) → planOn h card e p ≡ accept new → Wrote h card new (upd g e) (e .stamp) (st .logs))
+unfolding planOn finish
+write-step h card g k st e fine isd upto =
+    let hf = head-facts card h (st .head) in
+    let tb = st .tall in
+    let bn = bucket-within h card (tb .0) (tb .1) (hf .1) (tb .2) in
+    let bt = used-top h card (tb .0) (tb .1) (hf .1) (tb .2) in
+    let f0 = topUsed h card (h .n) + 1 in
+    let tl = tb .3 in
+    let ready = ready-top h card (st .bytes) (hf .1) (st .whole) in
+    let early = early-max h card (st .bytes) in
+    let ct = climb-tree h (hf .0) card g 4294967295 early e fine isd f0 ready (omega arith) upto k (st .last .value) 0 4294967296 (h .n) (st .tree)
+    (omega arith) (omega arith) (omega arith) (fine .0 .key) (omega arith) in
+    let r = climb h (e .stamp) (ct .0) (start card e f0) in
+    let cf = climb-fresh h (hf .0) card g 4294967295 early e fine isd f0 ready (omega arith) upto (ct .0) in (
+      ct .0,
+      ct .1,
+      λ new q.
+          let ci = checked-inv h (logFull h (r .card) (r .hand)) (rooted h (e .stamp) (r .hand) r) new q in
+          let rf = rooted-fresh h (e .stamp) (r .hand) r in
+          let cap = ci .0 in
+          subst (λ z. Wrote h card z (upd g e) (e .stamp) (st .logs)) (ci .2)
+          (ending h card g (upd g e) k (e .stamp) st (fine .0 .stamp) r cf (omega arith) (ct .2 (omega arith)) (ci .0) (ci .1)),
+    )

@@ -1,0 +1,1 @@
+// What a write keeps of the tree of buckets; no code.
