@@ -1,0 +1,39 @@
+-- `level::pairs` makes the pairs of the new buckets.
+use borrow.Author.Needs.{needs}
+use mathlib.Core.Path.{_≡_, ap, _∙_}
+use Prim.Native.Nat.{ℕ, _-_, _/_}
+use native.Mathlib.Omega.{arith}
+use lib.ListN.{length}
+use Rattle.level.proofs.Turns.{one-pair, two-pairs}
+use Rattle.hand.specs.Hand.{held}
+use Rattle.level.proofs.pairs.Statement.{statement}
+use Rattle.level.proofs.pairs.Tie as tie
+
+pair-at-requires : tie.Need-pair-at-requires
+pair-at-requires c κs = search needs
+
+returns : tie.Need-returns
+returns c =
+    let o = c .before .before in
+    one-pair (o .args .stamp) (o .args .limit) (o .args .fresh) (held (o .args .h)) _ (omega (arith, o .pre)) (c .before .pair-at .ensures)
+
+halved-requires : tie.Need-halved-requires
+halved-requires c κs = search needs
+
+add-pair-at : tie.Need-add-pair-at
+add-pair-at c = search needs
+
+pair-at-requires-2 : tie.Need-pair-at-requires-2
+pair-at-requires-2 c κs = search needs
+
+returns-2 : tie.Need-returns-2
+returns-2 c =
+    let o = c .before .before .before .before in
+    let n = o .pre .0 in
+    let cut : c .before .halved .result ≡ length (held (o .args .h)) - length (held (o .args .h)) / 2 = c .before .halved .ensures .0 ∙ ap (λ (k : ℕ). k - k / 2) n in
+    two-pairs (o .args .stamp) (o .args .limit) (o .args .fresh) (c .before .halved .result) (held (o .args .h)) _ _ (omega (arith, n, c .before .before .if1 .left)) cut (c .before .before .before .pair-at .ensures) (c .pair-at2 .ensures)
+
+pub pairs-spec : {M : Type 1} → statement M
+pairs-spec =
+    tie.close
+    (tie.spec pair-at-requires returns halved-requires add-pair-at pair-at-requires-2 returns-2)

@@ -1,0 +1,51 @@
+-- `level::regrouped` keeps what the rule keeps, by the four steps of the hand.
+use borrow.Author.Needs.{needs}
+use mathlib.Core.Path.{_≡_, sym, _∙_}
+use mathlib.Core.List.{_++_}
+use Prim.Native.Nat.{_+_}
+use native.Mathlib.Omega.{arith}
+use lib.ListN.{length, length-map}
+use lib.Seq.{length-take-le}
+use Rattle.level.specs.Level.{sentList}
+use Rattle.rules.specs.Rewrite.{keyOf}
+use Rattle.hand.specs.Hand.{entriesAt}
+use Rattle.hand.proofs.Kept.{thinned-kept}
+use Rattle.level.proofs.regrouped.Statement.{statement}
+use Rattle.level.proofs.regrouped.Tie as tie
+
+gathered-requires : tie.Need-gathered-requires
+gathered-requires c κs = search needs
+
+key-at-requires : tie.Need-key-at-requires
+key-at-requires c κs = search needs
+
+with-sent-requires : tie.Need-with-sent-requires
+with-sent-requires c κs = search needs
+
+in-order-requires : tie.Need-in-order-requires
+in-order-requires c κs = search needs
+
+thinned-requires : tie.Need-thinned-requires
+thinned-requires c κs = search needs
+
+returns : tie.Need-returns
+returns c =
+    let o = c .before .before .before .before .before .before in
+    let r = c .thinned .result in
+    let long : length (r .entries) ≡ 34 = sym (length-map (r .entries) _) ∙ c .thinned .ok .1 .1 .0 .1 .0 .1 in (
+      search needs,
+      sym (length-take-le (r .count) (r .entries) (omega arith)),
+      rw (c .thinned .ensures .1, c .before .in-order .ensures .1, c .before .before .with-sent .ensures .1, c .before .before .before .key-at .ensures, c .before .before .before .before .gathered .ensures .1)
+          (thinned-kept (keyOf (entriesAt (o .args .part .now) 0 (o .args .used))) (o .args .stamp) (entriesAt (o .args .part .now) 0 (o .args .used) ++ sentList (o .args .p))),
+    )
+
+pub regrouped-spec : {M : Type 1} → statement M
+regrouped-spec =
+    tie.close
+    (tie.spec
+    gathered-requires
+    key-at-requires
+    with-sent-requires
+    in-order-requires
+    thinned-requires
+    returns)

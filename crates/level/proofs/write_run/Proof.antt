@@ -1,0 +1,82 @@
+-- `level::write_run` lays entries down in a row. What is left to lay down, on the card as it is, gives what all gives on the card that came.
+use borrow.Author.Needs.{needs}
+use mathlib.Core.Path.{_≡_, refl, sym, _∙_}
+use Prim.Native.Nat.{_+_, _-_, _≤_}
+use native.Mathlib.Omega.{arith}
+use lib.ListN.{length, length-map}
+use lib.Seq.{slice}
+use Rattle.level.proofs.Turns.{puts-turn, puts-end, small-turn}
+use Rattle.level.specs.Level.{puts, AllSmall}
+use Rattle.level.proofs.write_run.Statement.{statement}
+use Rattle.level.proofs.write_run.Tie as tie
+
+abbrev Inv-loop : tie.InvT-loop
+Inv-loop card₀ at from to h i₀ j₀ card i j = (j ≤ to) × (i + (to - j) ≡ at + (to - from)) × (length card ≡ length card₀) × AllSmall (slice j to (h .entries)) × (puts card i (slice j to (h .entries)) ≡ puts card₀ at (slice from to (h .entries)))
+
+abbrev μ-loop : tie.MeasureT-loop
+μ-loop card₀ at from to h i₀ j₀ card i j = to - j
+
+hand-long : (c : tie.Start Inv-loop μ-loop) → length (c .args .t3 .entries) ≡ 34
+hand-long c = sym (length-map (c .args .t3 .entries) _) ∙ c .good .1 .1 .0 .1 .1 .0 .1 .0 .1
+
+loop-holds : tie.Need-loop-holds Inv-loop μ-loop
+loop-holds c = (search needs, search needs, search needs, c .before .pre .3, refl)
+
+mul-e : tie.Need-mul-e Inv-loop μ-loop
+mul-e c = search needs
+
+element-copy-out-e : tie.Need-element-copy-out-e Inv-loop μ-loop
+element-copy-out-e c = search needs
+
+write-entry-requires : tie.Need-write-entry-requires Inv-loop μ-loop
+write-entry-requires c κs =
+    let l = c .before .before .before .loop in
+    let o = c .before .before .before .before .before in
+    (search needs, small-turn (o .args .t3 .entries) _ (o .args .to) (l .j) (l .inv .3) (search needs) (omega (arith, hand-long o)) .0)
+
+add-i : tie.Need-add-i Inv-loop μ-loop
+add-i c = search needs
+
+add-j : tie.Need-add-j Inv-loop μ-loop
+add-j c = search needs
+
+loop-less : tie.Need-loop-less Inv-loop μ-loop
+loop-less c = search needs
+
+loop-again : tie.Need-loop-again Inv-loop μ-loop
+loop-again c =
+    let l = c .before .before .before .before .before .before .loop in
+    let o = c .before .before .before .before .before .before .before .before in
+    let a = o .args in (
+      search needs,
+      search needs,
+      search needs,
+      small-turn (a .t3 .entries) (record { kind = 0; key = 0; stamp = 0; value = 0 }) (a .to) (l .j) (l .inv .3) (search needs) (omega (arith, hand-long o)) .1,
+      puts-turn (a .t3 .entries) _ (a .to) _ (l .card) _ (l .i) (l .j) (c .before .before .write-entry .ensures) (l .inv .4) (search needs) (omega (arith, hand-long o)),
+    )
+
+same-length : tie.Need-same-length Inv-loop μ-loop
+same-length c = search needs
+
+returns : tie.Need-returns Inv-loop μ-loop
+returns c =
+    let a = c .before .before .before .args in
+    let l = c .before .loop in
+    puts-end (a .t3 .entries) (a .to) _ (l .card) (l .i) (l .j) (l .inv .4) (search needs) (search needs)
+
+pub write-run-spec : {M : Type 1} → statement M
+write-run-spec =
+    tie.close
+    (tie.spec
+    Inv-loop
+    μ-loop
+    loop-holds
+    mul-e
+    element-copy-out-e
+    write-entry-requires
+    add-i
+    add-j
+    loop-less
+    loop-again
+    same-length
+    returns)

@@ -1,0 +1,51 @@
+-- `level::write_sent` lays down what was sent.
+use borrow.Author.Needs.{needs}
+use native.Mathlib.Omega.{arith}
+use Rattle.level.proofs.write_sent.Statement.{statement}
+use Rattle.level.proofs.write_sent.Tie as tie
+
+write-entry-requires : tie.Need-write-entry-requires
+write-entry-requires c κs =
+    let o = c .before .before .before .before .before in
+    let h = rw (c .before .if1 .taken) at (o .pre .0) in
+    (omega arith, (rw (c .before .if1 .taken) at (o .pre .1)) .0)
+
+add-write-entry : tie.Need-add-write-entry
+add-write-entry c = search needs
+
+write-entry-requires-2 : tie.Need-write-entry-requires-2
+write-entry-requires-2 c κs =
+    let o = c .before .before .before .before .before .before .before .before .before in
+    let h = rw (c .before .before .before .before .before .if1 .taken) at (o .pre .0) in
+    (omega arith, (rw (c .before .before .before .before .before .if1 .taken) at (o .pre .1)) .1 .0)
+
+write-entry-requires-3 : tie.Need-write-entry-requires-3
+write-entry-requires-3 c κs =
+    let o = c .before .before .before .before .before in
+    let h = rw (c .before .if1 .left) at (o .pre .0) in
+    (omega arith, (rw (c .before .if1 .left) at (o .pre .1)) .0)
+
+same-length : tie.Need-same-length
+same-length c = search needs
+
+returns : tie.Need-returns
+returns c = rw (c .before .before .before .before .before .before .before .before .if1 .taken, c .before .before .write-entry2 .ensures, c .before .before .before .before .before .before .write-entry .ensures)
+
+same-length-2 : tie.Need-same-length-2
+same-length-2 c = search needs
+
+returns-2 : tie.Need-returns-2
+returns-2 c = rw (c .before .before .before .before .if1 .left, c .before .before .write-entry3 .ensures)
+
+pub write-sent-spec : {M : Type 1} → statement M
+write-sent-spec =
+    tie.close
+    (tie.spec
+    write-entry-requires
+    add-write-entry
+    write-entry-requires-2
+    write-entry-requires-3
+    same-length
+    returns
+    same-length-2
+    returns-2)
