@@ -46,7 +46,8 @@ pub sectors-first : (n m : ℕ) (b : List ℕ) → 4 ≤ m → sectors n b 0 m �
 unfolding sectors sectorAt
 sectors-first n m b h = let more : m ≡ suc (m - 1) = omega arith in ap (λ (k : ℕ). sectors n b 0 k) more
 
-damaged-at : (ok : Entry → Bool) (pick : Found → Entry → Found) (best : Found) (s : Sector) (l : List Sector)
+-- neither an entry nor blank, as the two elses have it
+pub damaged-at : (ok : Entry → Bool) (pick : Found → Entry → Found) (best : Found) (s : Sector) (l : List Sector)
     → OneOf (0 ∷ 2 ∷ []) (tagOf the-type s) → OneOf (1 ∷ 2 ∷ []) (tagOf the-type s) → Damage ≡ scanIn ok pick (s ∷ l) best
 unfolding scanIn
 damaged-at ok pick best Blank l p q = ⊎-elim (λ a. absurd (omega arith)) (λ c. absurd (omega arith)) q
@@ -54,29 +55,10 @@ damaged-at ok pick best (Held e) l p q = ⊎-elim (λ a. absurd (omega arith)) (
 damaged-at ok pick best Damaged l p q = refl
 
 -- the sector s was read at i; w is what the whole scan says
-module _ (ok : Entry → Bool) (pick : Found → Entry → Found) (n m i : ℕ) (b : List ℕ) (s : Sector) (best w : Found) (h : i < m)
-    (d : s ≡ decode n (take (16 * i + 16 - 16 * i) (drop (16 * i) b))) (inv : scanIn ok pick (sectors n b i (m - i)) best ≡ w) where
-  pub scan-turn : scanIn ok pick (s ∷ sectors n b (i + 1) (m - (i + 1))) best ≡ w
-  scan-turn = rw (sectors-step n m i b h, ← d) at inv
-
-  -- an entry that passes: one turn more
-  pub scan-more : (e : Entry) → s ≡ Held e → ok e ≡ true → scanIn ok pick (sectors n b (i + 1) (m - (i + 1))) (pick best e) ≡ w
-  unfolding scanIn
-  scan-more e is o = rw (is, o) at scan-turn
-
-  -- an entry that does not: damage
-  pub scan-bad : (e : Entry) → s ≡ Held e → ok e ≡ false → Damage ≡ w
-  unfolding scanIn
-  scan-bad e is o = rw (is, o) at scan-turn
-
-  -- a blank: the rest decides
-  pub scan-blank : s ≡ Blank → (r : Bool) → allBlank (sectors n b (i + 1) (m - (i + 1))) ≡ r → if r best Damage ≡ w
-  unfolding scanIn
-  scan-blank is r a = rw (is, a) at scan-turn
-
-  -- neither an entry nor blank, as the two elses have it
-  pub scan-damaged : OneOf (0 ∷ 2 ∷ []) (tagOf the-type s) → OneOf (1 ∷ 2 ∷ []) (tagOf the-type s) → Damage ≡ w
-  scan-damaged p q = damaged-at ok pick best s (sectors n b (i + 1) (m - (i + 1))) p q ∙ scan-turn
+pub scan-turn : (ok : Entry → Bool) (pick : Found → Entry → Found) (n m i : ℕ) (b : List ℕ) (s : Sector) (best w : Found) → i < m
+    → s ≡ decode n (take (16 * i + 16 - 16 * i) (drop (16 * i) b)) → scanIn ok pick (sectors n b i (m - i)) best ≡ w
+    → scanIn ok pick (s ∷ sectors n b (i + 1) (m - (i + 1))) best ≡ w
+scan-turn ok pick n m i b s best w h d inv = rw (sectors-step n m i b h, ← d) at inv
 
 pub scan-end : (ok : Entry → Bool) (pick : Found → Entry → Found) (n m i : ℕ) (b : List ℕ) (best w : Found) → m ≤ i
     → scanIn ok pick (sectors n b i (m - i)) best ≡ w → best ≡ w
@@ -90,6 +72,11 @@ first-other-kind k x t Blank l p = refl
 first-other-kind k x t (Held e) l p = ⊎-elim (λ a. absurd (omega arith)) (λ c. absurd (omega arith)) p
 first-other-kind k x t Damaged l p = refl
 
+way-lost : (index : Bool) → Lost ≡ wayOf index Damage
+unfolding wayOf
+way-lost true = refl
+way-lost false = refl
+
 module _ (k x t n m : ℕ) (b : List ℕ) (s : Sector) (h : 4 ≤ m) (d : s ≡ decode n (take 16 b)) where
   -- no entry at the start
   pub first-none : OneOf (0 ∷ 2 ∷ []) (tagOf the-type s) → Lost ≡ search k x t (sectors n b 0 m)
@@ -100,31 +87,16 @@ module _ (k x t n m : ℕ) (b : List ℕ) (s : Sector) (h : 4 ≤ m) (d : s ≡ 
   unfolding search
   first-other e is other = rw (sectors-first n m b h, ← d, is, ne-eqb (e .key) k other)
 
-  -- the scan with that header
-  pub first-starts : (e : Entry) → s ≡ Held e → e .key ≡ k
-      → wayOf (isIndex e) (scanIn (joins e) (pick (isIndex e) x t) (sectors n b 0 m) Nothing) ≡ search k x t (sectors n b 0 m)
-  unfolding search
-  first-starts e is same = rw (sectors-first n m b h, ← d, is, eq-eqb (e .key) k same)
+  -- a header that may not stand in a bucket
+  pub first-bad : (e : Entry) → s ≡ Held e → e .key ≡ k → joins e e ≡ false → Lost ≡ search k x t (sectors n b 0 m)
+  unfolding search scanIn
+  first-bad e is same bad = rw (sectors-first n m b h, ← d, is, eq-eqb (e .key) k same, bad) (way-lost (isIndex e))
 
--- the loop over the rest, which has to be blank
-not-blank : (s : Sector) (l : List Sector) → OneOf (1 ∷ 2 ∷ []) (tagOf the-type s) → false ≡ allBlank (s ∷ l)
-unfolding allBlank
-not-blank Blank l p = ⊎-elim (λ a. absurd (omega arith)) (λ c. absurd (omega arith)) p
-not-blank (Held e) l p = refl
-not-blank Damaged l p = refl
-
-module _ (n m i : ℕ) (b : List ℕ) (s : Sector) (w : Bool) (h : i < m)
-    (d : s ≡ decode n (take (16 * i + 16 - 16 * i) (drop (16 * i) b))) (inv : allBlank (sectors n b i (m - i)) ≡ w) where
-  pub blank-more : s ≡ Blank → allBlank (sectors n b (i + 1) (m - (i + 1))) ≡ w
-  unfolding allBlank
-  blank-more is = rw (sectors-step n m i b h, ← d, is) at inv
-
-  pub blank-ends : OneOf (1 ∷ 2 ∷ []) (tagOf the-type s) → false ≡ w
-  blank-ends p = not-blank s (sectors n b (i + 1) (m - (i + 1))) p ∙ (rw (sectors-step n m i b h, ← d) at inv)
-
-pub blank-none : (n m i : ℕ) (b : List ℕ) (w : Bool) → m ≤ i → allBlank (sectors n b i (m - i)) ≡ w → true ≡ w
-unfolding allBlank
-blank-none n m i b w h inv = rw (sectors-end n m i b h) at inv
+  -- the scan from the next sector on, the header being weighed
+  pub first-starts : (e : Entry) → s ≡ Held e → e .key ≡ k → joins e e ≡ true
+      → wayOf (isIndex e) (scanIn (joins e) (pick (isIndex e) x t) (sectors n b 1 (m - 1)) (pick (isIndex e) x t Nothing e)) ≡ search k x t (sectors n b 0 m)
+  unfolding search scanIn
+  first-starts e is same good = rw (sectors-first n m b h, ← d, is, eq-eqb (e .key) k same, good)
 
 -- next's passes: an entry is one turn more, anything else the end
 weigh-other : (pick : Found → Entry → Found) (s : Sector) (l : List Sector) (best : Found) → OneOf (0 ∷ 2 ∷ []) (tagOf the-type s) → best ≡ weigh pick (s ∷ l) best

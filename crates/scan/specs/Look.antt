@@ -28,6 +28,10 @@ searchAt h card x t (suc b) k = search k x t (sectors (h .n) card (base h (suc b
 unfoldable pub partOf : Head → List ℕ → ℕ → List ℕ
 partOf h card b = take (16 * h .m) (drop (16 * base h b) card)
 
+-- the bytes of the log
+unfoldable pub logOf : Head → List ℕ → List ℕ
+logOf h card = take (16 * h .n) (drop 16 card)
+
 abbrev pub trip : ℕ → Found → Trip
 trip r f = record { reads = r; found = f }
 

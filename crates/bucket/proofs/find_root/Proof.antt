@@ -1,0 +1,25 @@
+use denote.Ref.{now}
+use Rattle.laws.proofs.Heads.{log-fits}
+use Rattle.bucket.proofs.Quests.{log-found}
+use borrow.Author.Needs.{needs}
+use Rattle.bucket.proofs.find_root.Statement.{statement}
+use Rattle.bucket.proofs.find_root.Tie as tie
+
+log-part-requires : tie.Need-log-part-requires
+log-part-requires c κs = search needs
+
+log-quest-requires : tie.Need-log-quest-requires
+log-quest-requires c κs = search needs
+
+scan-from-requires : tie.Need-scan-from-requires
+scan-from-requires c κs = search needs
+
+returns : tie.Need-returns
+returns c =
+    let e = c .before .before .before .before in
+    let card = now (e .args .card) in
+    log-found (e .args .head) card _ (e .args .stamp) _ _ (log-fits (e .args .head) card (e .pre .long)) (c .before .before .log-part .ensures .0) (c .before .log-quest .ensures) (c .scan-from .ensures)
+
+pub find-root-spec : {M : Type 1} → statement M
+find-root-spec =
+    tie.close (tie.spec log-part-requires log-quest-requires scan-from-requires returns)

@@ -1,0 +1,160 @@
+use Prim.Native.Nat.{_≤_, _+_, _*_, _-_}
+use mathlib.Core.Path.{_≡_, refl, _∙_}
+use mathlib.Core.List.{_∷_}
+use native.Mathlib.Omega.{arith}
+use lib.ListN.{length, take, drop, length-take, length-drop}
+use denote.Ref.{now}
+use Rattle.rules.specs.Plain.{zeros}
+use Rattle.scan.specs.Scan.{sectors, allBlank, scanIn}
+use Rattle.scan.proofs.Blanks.{rest-blank}
+use Rattle.scan.proofs.Loops.{scan-turn, scan-end, damaged-at}
+use Rattle.bucket.specs.Quests.{fits, takes}
+use borrow.Author.Needs.{needs}
+use Rattle.bucket.proofs.scan_from.Statement.{statement}
+use Rattle.bucket.proofs.scan_from.Tie as tie
+
+abbrev Inv-loop : tie.InvT-loop
+Inv-loop part n from count quest first best₀ best i =
+    (i ≤ count) × (scanIn (fits quest) (takes quest) (sectors n part i (count - i)) best ≡ scanIn (fits quest) (takes quest) (sectors n part from (count - from)) first)
+
+abbrev μ-loop : tie.MeasureT-loop
+μ-loop part n from count quest first best₀ best i = count - i
+
+loop-holds : tie.Need-loop-holds Inv-loop μ-loop
+loop-holds c = (search needs, refl)
+
+mul-a : tie.Need-mul-a Inv-loop μ-loop
+mul-a c = search needs
+
+add-e : tie.Need-add-e Inv-loop μ-loop
+add-e c = search needs
+
+sub-decode : tie.Need-sub-decode Inv-loop μ-loop
+sub-decode c = search needs
+
+part-decode-start : tie.Need-part-decode-start Inv-loop μ-loop
+part-decode-start c = search needs
+
+part-decode-end : tie.Need-part-decode-end Inv-loop μ-loop
+part-decode-end c = search needs
+
+decode-requires : tie.Need-decode-requires Inv-loop μ-loop
+decode-requires c κs = simp (length-take, length-drop) (omega arith)
+
+enum-known-s : tie.Need-enum-known-s Inv-loop μ-loop
+enum-known-s c = search needs
+
+enum-told : tie.Need-enum-told Inv-loop μ-loop
+enum-told c = search needs
+
+sub-all-zero : tie.Need-sub-all-zero Inv-loop μ-loop
+sub-all-zero c = search needs
+
+part-all-zero-start : tie.Need-part-all-zero-start Inv-loop μ-loop
+part-all-zero-start c = search needs
+
+part-all-zero-end : tie.Need-part-all-zero-end Inv-loop μ-loop
+part-all-zero-end c = search needs
+
+all-zero-requires : tie.Need-all-zero-requires Inv-loop μ-loop
+all-zero-requires c κs = search needs
+
+fits-requires : tie.Need-fits-requires Inv-loop μ-loop
+fits-requires c κs = search needs
+
+takes-requires : tie.Need-takes-requires Inv-loop μ-loop
+takes-requires c κs = search needs
+
+add-i : tie.Need-add-i Inv-loop μ-loop
+add-i c = search needs
+
+loop-less : tie.Need-loop-less Inv-loop μ-loop
+loop-less c = search needs
+
+-- what the sector read says of the whole scan
+turn-at : (q : tie.After-decode Inv-loop μ-loop) →
+    let turn = q .before .before .before in
+    let a = turn .before .before .args in
+    scanIn (fits (a .quest)) (takes (a .quest)) (q .decode .result ∷ sectors (a .n) (now (a .part)) (turn .loop .i + 1) (a .count - (turn .loop .i + 1))) (turn .loop .best)
+    ≡ scanIn (fits (a .quest)) (takes (a .quest)) (sectors (a .n) (now (a .part)) (a .from) (a .count - a .from)) (a .first)
+turn-at q =
+    let turn = q .before .before .before in
+    let a = turn .before .before .args in
+    scan-turn _ _ (a .n) (a .count) (turn .loop .i) (now (a .part)) _ _ _ (omega (arith, turn .loop .inv .0, q .before .before .if1 .left)) (q .decode .ensures) (turn .loop .inv .1)
+
+-- the bytes behind it
+rest-at : (q : tie.After-decode Inv-loop μ-loop) →
+    let turn = q .before .before .before in
+    let a = turn .before .before .args in
+    zeros (take (length (now (a .part)) - (16 * turn .loop .i + 16)) (drop (16 * turn .loop .i + 16) (now (a .part))))
+    ≡ allBlank (sectors (a .n) (now (a .part)) (turn .loop .i + 1) (a .count - (turn .loop .i + 1)))
+rest-at q =
+    let turn = q .before .before .before in
+    let e = turn .before .before in
+    rest-blank (e .args .n) (e .args .count) (turn .loop .i) (now (e .args .part)) (omega (arith, turn .loop .inv .0, q .before .before .if1 .left)) (e .pre .0)
+
+loop-again : tie.Need-loop-again Inv-loop μ-loop
+unfolding scanIn
+loop-again c =
+    let judged = c .before .before in
+    let read = judged .before .before .before .before in
+    (search needs, rw (c .takes .ensures) (rw (judged .before .before .s .given .1, ← judged .fits2 .ensures, c .before .if3 .taken) at (turn-at read)))
+
+returns : tie.Need-returns Inv-loop μ-loop
+returns c =
+    let turn = c .before in
+    let a = turn .before .before .args in
+    scan-end _ _ (a .n) (a .count) (turn .loop .i) (now (a .part)) _ _ (omega arith) (turn .loop .inv .1)
+
+returns-2 : tie.Need-returns-2 Inv-loop μ-loop
+returns-2 c = damaged-at _ _ _ _ _ (c .before .match .keys2) (c .match2 .keys2) ∙ turn-at (c .before .before)
+
+returns-3 : tie.Need-returns-3 Inv-loop μ-loop
+unfolding scanIn
+returns-3 c =
+    let blank = c .before .before .before in
+    let read = blank .before .before .before in
+    rw (blank .enum-told .given .1, ← rest-at read, ← c .before .all-zero .ensures, c .if2 .taken) at (turn-at read)
+
+returns-4 : tie.Need-returns-4 Inv-loop μ-loop
+unfolding scanIn
+returns-4 c =
+    let blank = c .before .before .before in
+    let read = blank .before .before .before in
+    rw (blank .enum-told .given .1, ← rest-at read, ← c .before .all-zero .ensures, c .if2 .left) at (turn-at read)
+
+returns-5 : tie.Need-returns-5 Inv-loop μ-loop
+unfolding scanIn
+returns-5 c =
+    let judged = c .before in
+    rw (judged .before .before .s .given .1, ← judged .fits2 .ensures, c .if3 .left) at (turn-at (judged .before .before .before .before))
+
+pub scan-from-spec : {M : Type 1} → statement M
+scan-from-spec =
+    tie.close
+    (tie.spec
+    Inv-loop
+    μ-loop
+    loop-holds
+    mul-a
+    add-e
+    sub-decode
+    part-decode-start
+    part-decode-end
+    decode-requires
+    enum-known-s
+    enum-told
+    sub-all-zero
+    part-all-zero-start
+    part-all-zero-end
+    all-zero-requires
+    fits-requires
+    takes-requires
+    add-i
+    loop-less
+    loop-again
+    returns
+    returns-2
+    returns-3
+    returns-4
+    returns-5)
