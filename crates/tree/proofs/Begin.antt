@@ -243,7 +243,7 @@ module _ (h : Head) (lim : limits h ≡ true) (card : List ℕ) (size : sizeOf h
     last-is = refl;
     tree = tree4;
     whole = fb2 .ready .whole;
-    tall = (2, dummy ∷ [], fb2 .here, omega arith);
+    tall = (2, dummy ∷ [], fb2 .here, omega arith, omega arith);
   }
 
   pub begun : Keeps h card4 [] 0

@@ -35,7 +35,8 @@ pub record State (h : Head) (card : List ℕ) (g : ℕ → Option Entry) (k : �
   pub last-is : lastOf logs ≡ some last
   pub tree : Tree (bucket h card) g k (last .value) 0 4294967296
   pub whole : (c : ℕ) → 1 ≤ c → (es : List Entry) × (raw h card c ≡ some es)
-  pub tall : (b : ℕ) × (es : List Entry) × (bucket h card b ≡ some es) × (k + 1 ≤ b)
+  -- some bucket's number is above the height, and above the number of log entries: so neither the walk's N nor the log runs out
+  pub tall : (b : ℕ) × (es : List Entry) × (bucket h card b ≡ some es) × (k + 1 ≤ b) × (length logs < b)
 
 -- all stamps are below 4294967296
 good-left : (n : ℕ) (es : List Entry) → Good n es → left 4294967295 es ≡ es
