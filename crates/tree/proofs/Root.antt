@@ -1,5 +1,5 @@
 -- A card in order, and an accepted write.
-use mathlib.Core.Path.{_≡_, ap, ap₂}
+use mathlib.Core.Path.{_≡_, ap}
 use mathlib.Core.Logic.{⊎-elim}
 use mathlib.Core.Bool.{true}
 use mathlib.Core.Option.{Option, some}
@@ -12,7 +12,7 @@ use borrow.Author.Tests.{le-leb, le-ltb, lt-leb, lt-ltb}
 use Rattle.rules.specs.declared.Entry.{Entry}
 use Rattle.rules.specs.declared.Head.{Head}
 use Rattle.rules.specs.Bucket.{bucket, log, logBlanks, soundLog}
-use Rattle.rules.specs.Layout.{base, headIn, headOf}
+use Rattle.rules.specs.Layout.{base, headOf}
 use Rattle.rules.specs.Plain.{andThen, larger, largest, lastOf, only}
 use Rattle.rules.specs.Sector.{sectorAt}
 use Rattle.rules.specs.Walk.{follow, left, path, pathFrom, pathIn, walk}
@@ -47,10 +47,6 @@ good-left n es g =
 
 pub early-max : (h : Head) (card : List ℕ) → Bytes card → Early 4294967295 (bucket h card)
 early-max h card b c es q = good-left (h .n) es (run-good (h .n) card b (base h c) (h .m) es (bucket-raw h card c es q .1))
-
-pub head-same : (card card' : List ℕ) → sectorAt card' 0 ≡ sectorAt card 0 → length card' ≡ length card → headOf card' ≡ headOf card
-unfolding headOf
-head-same card card' s l = ap₂ headIn s l
 
 pub log-same : (h : Head) (card card' : List ℕ) → ((j : ℕ) → j < 1 + h .n → sectorAt card' j ≡ sectorAt card j) → log h card' ≡ log h card
 unfolding log

@@ -24,7 +24,7 @@ use Rattle.laws.proofs.Blocks.{blank-room}
 use Rattle.laws.proofs.Bytes.{Fine}
 use Rattle.laws.proofs.Buckets.{bucket-raw, bucket-within}
 use Rattle.laws.proofs.Fresh.{rooted-fresh, climb-mono, New, climb-new, freshAfter}
-use Rattle.laws.proofs.Heads.{Lim, head-facts}
+use Rattle.laws.proofs.Heads.{Lim, head-facts, head-same}
 use Rattle.laws.proofs.Into.{Stays, stays-trans}
 use Rattle.laws.proofs.Plans.{checked-inv}
 use Rattle.laws.proofs.Used.{used-top}
@@ -36,7 +36,7 @@ use Rattle.tree.proofs.Place.{Closed, Mark, One, Open, Outcome, Two, Up
 use Rattle.tree.proofs.Placed.{late-nil}
 use Rattle.tree.proofs.Climb.{climb-tree, start, upd}
 use Rattle.tree.proofs.LogStep.{log-step, log-raw}
-use Rattle.tree.proofs.Root.{State, early-max, head-same, kids-pair, log-blanks-same, log-same}
+use Rattle.tree.proofs.Root.{State, early-max, kids-pair, log-blanks-same, log-same}
 use Rattle.tree.proofs.Ready.{fresh-bucket, ready-top}
 
 -- what an accepted write with the stamp s gives
