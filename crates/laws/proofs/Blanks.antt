@@ -1,5 +1,5 @@
 -- The blanks of a sound bucket or log lie behind its entries, in a row.
-use mathlib.Core.Path.{_∙_, _≡_, ap, ap₂}
+use mathlib.Core.Path.{_∙_, _≡_, ap, ap₂, refl}
 use mathlib.Core.Logic.{⊎-elim}
 use mathlib.Core.Option.{some}
 use Prim.Native.Nat.{_+_, _-_, suc, zero, ℕ}
@@ -38,3 +38,11 @@ blanks-from n card i (suc c) es q =
     let e2 : c - length (b .1) ≡ suc c - length es = omega arith in
     blanks-no card i c (held-zeros n (sectorAt card i) (b .0) (b .2)) ∙ blanks-from n card (suc i) c (b .1) (b .4) ∙ ap₂ upFrom e1 e2)
     (onto-inv (decode n (sectorAt card i)) (run n card (suc i) c) es q)
+
+pub upFrom-length : (i c : ℕ) → length (upFrom i c) ≡ c
+upFrom-length i zero = refl
+upFrom-length i (suc c) = ap suc (upFrom-length (suc i) c)
+
+-- so as many are left as there are fewer entries than sectors
+pub blanks-left : (n : ℕ) (card : List ℕ) (i c : ℕ) (es : List Entry) → run n card i c ≡ some es → length (blanks card i c) ≡ c - length es
+blanks-left n card i c es q = ap length (blanks-from n card i c es q) ∙ upFrom-length (i + length es) (c - length es)

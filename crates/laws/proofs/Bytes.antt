@@ -125,3 +125,7 @@ good-all n (e ∷ es) g = ((g .0, g .1), good-all n es (g .2))
 pub all-good : (n : ℕ) (es : List Entry) → All (Fine n) es → Good n es
 all-good n [] g = tt
 all-good n (e ∷ es) g = (g .0 .0, g .0 .1, all-good n es (g .1))
+
+pub zip-fine : (n : ℕ) (Q : Entry → Type 0) (es : List Entry) → Good n es → All Q es → All (λ d. Fine n d × Q d) es
+zip-fine n Q [] g a = tt
+zip-fine n Q (e ∷ es) g a = (((g .0, g .1), a .0), zip-fine n Q es (g .2) (a .1))

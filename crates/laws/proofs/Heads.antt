@@ -1,5 +1,5 @@
 -- What a head that is read says of its card: the limits and the length; where buckets and log lie on such a card.
-use mathlib.Core.Path.{_≡_, sym, subst}
+use mathlib.Core.Path.{_≡_, sym, subst, ap₂}
 use mathlib.Core.Bool.{true}
 use mathlib.Core.Option.{some}
 use mathlib.Core.List.{List}
@@ -76,3 +76,8 @@ bucket-fits h card b long one most =
 pub log-fits : (h : Head) (card : List ℕ) → sizeOf h ≡ length card → 16 * (1 + h .n) ≤ length card
 unfolding sizeOf
 log-fits h card long = let more : h .n * (h .m + 1) ≡ h .n * h .m + h .n * 1 = mul-add (h .n) (h .m) 1 in omega arith
+
+-- the head is read from sector 0 and the length alone
+pub head-same : (card card' : List ℕ) → sectorAt card' 0 ≡ sectorAt card 0 → length card' ≡ length card → headOf card' ≡ headOf card
+unfolding headOf
+head-same card card' s l = ap₂ headIn s l

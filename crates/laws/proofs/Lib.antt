@@ -14,6 +14,8 @@ pub mod Into
 pub mod Used
 pub mod Fresh
 pub mod Paths
-pub mod AsMet
 pub mod Plans
 pub mod Puts
+pub mod Stamps
+pub mod Writes
+pub mod AsMet

@@ -61,6 +61,13 @@ top-sector h card c j p q a b = unwritten-each card (base h c) (h .m) j (top-bla
 pub top-raw : (h : Head) (card : List ℕ) (c : ℕ) → topUsed h card (h .n) < c → c ≤ h .n → raw h card c ≡ some []
 top-raw h card c p q = run-blank (h .n) card (base h c) (h .m) (λ j a b. top-sector h card c j p q a b)
 
+pub used-within : (h : Head) (card : List ℕ) (n : ℕ) → topUsed h card n ≤ n
+unfolding topUsed
+used-within h card zero = omega arith
+used-within h card (suc n) =
+    let ih = used-within h card n in
+    elim (unwritten card (base h (suc n)) (h .m)) as (λ b. (elim b as (λ x. ℕ) [ true ↦ topUsed h card n | false ↦ suc n ]) ≤ suc n) [ true ↦ omega arith | false ↦ omega arith ]
+
 -- and a bucket that can be read is not past it
 pub used-top : (h : Head) (card : List ℕ) (b : ℕ) (es : List Entry) → sizeOf h ≡ length card → bucket h card b ≡ some es → b ≤ topUsed h card (h .n)
 unfolding soundBucket

@@ -1,39 +1,45 @@
 -- A formatted card answers for the empty history.
-use mathlib.Core.Path.{_∙_, _≡_, ap, ap₂, refl, subst, sym}
-use mathlib.Core.Logic.{inl, inr, ⊎-elim}
-use mathlib.Core.Bool.{false, true}
-use mathlib.Core.Option.{none, some}
 use Prim.Native.Nat.{_%_, _*_, _+_, _-_, _/_, _<_, _≤_, suc, zero, ℕ}
-use native.Mathlib.Omega.{arith}
-use native.Mathlib.Nat.{mul-le-mul-left}
-use mathlib.Core.List.{List, [], _∷_, _++_}
-use lib.ListN.{drop, length, take}
+use borrow.Author.Tests.{eq-eqb, le-leb, le-ltb, eqb-true}
 use lib.Dec.{eqb}
-use borrow.Author.Tests.{eq-eqb, le-leb, le-ltb}
+use lib.ListN.{drop, length, take}
+use mathlib.Core.Bool.{false, true, not}
+use mathlib.Core.List.{List, [], _∷_, _++_}
+use mathlib.Core.Logic.{inr, ⊎-elim}
+use mathlib.Core.Option.{none, some, Option}
+use mathlib.Core.Path.{_∙_, _≡_, ap, ap₂, refl, subst, sym}
+use native.Mathlib.Nat.{mul-le-mul-left}
+use native.Mathlib.Omega.{arith}
 use Rattle.rules.specs.declared.Entry.{Entry}
 use Rattle.rules.specs.declared.Head.{Head}
 use Rattle.rules.specs.Bucket.{blanksOf, bucket, log, onto, run, soundBucket, soundLog, joins}
+use Rattle.rules.specs.Format.{dummy, format, formatFor, formatted, meant}
 use Rattle.rules.specs.Layout.{base, headBytes, headFields, headIn, headOf, limits, sizeOf}
-use Rattle.rules.specs.Plain.{andThen, every, keepIf, larger, largest, lastOf, only, zeros}
+use Rattle.rules.specs.Plain.{_&_, zeros, andThen, every, keepIf, larger, largest, lastOf, only}
 use Rattle.rules.specs.Rewrite.{into}
 use Rattle.rules.specs.Sector.{encode, isData, isIndex, isPost, isRoot, le4, legal, put, rootEntry, sectorAt, word, indexEntry}
 use Rattle.rules.specs.Walk.{copyOf, follow, standing}
-use Rattle.rules.specs.Format.{dummy}
-use Rattle.laws.proofs.Tools.{le-or-lt, none-some}
-use Rattle.laws.proofs.Lists.{upper, all-map}
-use Rattle.laws.proofs.Sectors.{length-put, sector-put-other, sector-put-same}
-use Rattle.laws.proofs.Codec.{length-encode}
-use Rattle.laws.proofs.Run.{blanks-agree, decode-put, run-agree}
+use Rattle.rules.specs.Write.{accept, refuseIf, stampOn, stampOf}
+use Rattle.laws.proofs.Blocks.{blank-room}
+use Rattle.laws.proofs.Buckets.{raw, run-past}
 use Rattle.laws.proofs.Bytes.{Bytes, Fine, bytes-append, bytes-encode, bytes-le4, bytes-put}
-use Rattle.laws.proofs.Buckets.{bucket-raw, bucket-within, raw, run-past}
+use Rattle.laws.proofs.Codec.{length-encode}
+use Rattle.laws.proofs.Heads.{limits-hold}
 use Rattle.laws.proofs.Into.{block-out}
+use Rattle.laws.proofs.Lists.{upper}
+use Rattle.laws.proofs.Plans.{not-false, passed}
+use Rattle.laws.proofs.Run.{blanks-agree, decode-put, run-agree}
+use Rattle.laws.proofs.Sectors.{length-put, sector-put-other, sector-put-same}
+use Rattle.laws.proofs.Tools.{and-true, le-or-lt}
 use Rattle.laws.proofs.Used.{get-zeros, run-blank, zeros-get}
-use Rattle.tree.proofs.Tree.{Tree}
-use Rattle.tree.proofs.Place.{Upto, upto-step}
-use Rattle.tree.proofs.Step.{root-fine}
-use Rattle.tree.proofs.Root.{State}
-use Rattle.tree.proofs.History.{Keeps, now, now-answers}
+use Rattle.laws.proofs.Puts.{Chain, chain-more, into-chain}
+use Rattle.laws.proofs.Stamps.{stamp-blank}
+use Rattle.laws.proofs.Writes.{chain-top}
+use Rattle.tree.proofs.Keeps.{Keeps, now-ends}
 use Rattle.tree.proofs.Ready.{Fresh, Ready, fresh-bucket}
+use Rattle.tree.proofs.Root.{State}
+use Rattle.tree.proofs.Step.{root-fine}
+use Rattle.tree.proofs.Tree.{Tree}
 
 pub zero-bytes : (xs : List ℕ) → zeros xs ≡ true → Bytes xs
 unfolding zeros
@@ -70,13 +76,17 @@ head-read h len l n4 e =
 abbrev idx : Entry
 idx = indexEntry 0 0 2
 
+-- nothing stands
+abbrev pub nothing : ℕ → Option Entry
+nothing x = none
+
 dummy-none : (x : ℕ) → standing (copyOf x (dummy ∷ [])) ≡ none
 unfolding standing copyOf only lastOf isPost
 dummy-none x = elim (eqb 0 x) as (λ b. standing (lastOf (keepIf b dummy [])) ≡ none) [ true ↦ refl | false ↦ refl ]
 
 module _ (h : Head) (lim : limits h ≡ true) (card : List ℕ) (size : sizeOf h ≡ length card) (bytes0 : Bytes card)
     (front0 : (j : ℕ) → j < 1 + h .n → zeros (sectorAt card j) ≡ true) (blank0 : (c : ℕ) → 1 ≤ c → c ≤ h .n → raw h card c ≡ some [])
-    (room1 : 1 ≤ length (blanksOf h card 1)) (room2 : 1 ≤ length (blanksOf h card 2))
+    (stamps0 : (j : ℕ) → 1 + h .n ≤ j → stampOf (sectorAt card j) ≡ 0) (room1 : 1 ≤ length (blanksOf h card 1)) (room2 : 1 ≤ length (blanksOf h card 2))
     (n2 : 2 ≤ h .n) (n4096 : h .n ≤ 4096) (m4 : 4 ≤ h .m) (m32 : h .m ≤ 32) (tdm : h .td ≤ h .m) (tim : h .ti ≤ h .m) where
   abbrev card1 : List ℕ
   card1 = put card 0 (headBytes h 0)
@@ -162,14 +172,6 @@ module _ (h : Head) (lim : limits h ≡ true) (card : List ℕ) (size : sizeOf h
       log-one zero e = absurd (omega arith)
       log-one (suc c) e = rw (decode-put (h .n) card1 root (fine-root .0) (fine-root .1) 1 1 refl (omega (arith, big, len1)), rest c (omega arith))
 
-  none2 : Upto 0 (bucket h card2)
-  unfolding soundBucket
-  none2 c cs q =
-      let r = bucket-raw h card2 c cs q in
-      let w = bucket-within h card2 c cs (ready2 .size) q in
-      let e : cs ≡ [] = cc (r .1, ready2 .blank c (r .0) w) in
-      absurd (none-some (ap soundBucket (sym e) ∙ r .2))
-
   fine-idx : Fine (h .n) idx
   unfolding legal
   fine-idx = (record { kind = omega arith; key = omega arith; stamp = omega arith; value = omega arith }, le-leb 2 (h .n) n2)
@@ -214,7 +216,7 @@ module _ (h : Head) (lim : limits h ≡ true) (card : List ℕ) (size : sizeOf h
       (sym (fb2 .ready .size))
       ∙ head-read h (sizeOf h) lim n4096 refl
 
-  tree4 : Tree (bucket h card4) (now []) 1 1 0 4294967296
+  tree4 : Tree (bucket h card4) nothing 1 1 0 4294967296
   unfolding follow only largest larger upper isIndex isData
   tree4 = (
     idx ∷ [],
@@ -228,11 +230,7 @@ module _ (h : Head) (lim : limits h ≡ true) (card : List ℕ) (size : sizeOf h
     ),
   )
 
-  upto4 : Upto 0 (bucket h card4)
-  upto4 = upto-step 0 (bucket h card3) (bucket h card4) 2 (dummy ∷ [])
-      (upto-step 0 (bucket h card2) (bucket h card3) 1 (idx ∷ []) none2 (fb1 .here) (omega arith, tt) (fb1 .others)) (fb2 .here) (omega arith, tt) (fb2 .others)
-
-  state4 : State h card4 (now []) 1
+  state4 : State h card4 nothing 1
   unfolding lastOf log
   state4 = record {
     bytes = fb2 .ready .bytes;
@@ -243,18 +241,57 @@ module _ (h : Head) (lim : limits h ≡ true) (card : List ℕ) (size : sizeOf h
     last-is = refl;
     tree = tree4;
     whole = fb2 .ready .whole;
-    tall = (2, dummy ∷ [], fb2 .here, omega arith);
+    tall = (2, dummy ∷ [], fb2 .here, omega arith, omega arith);
   }
 
-  pub begun : Keeps h card4 [] 0
+  chain4 : Chain h (λ d. d .stamp ≤ 0) card2 card4
+  chain4 = chain-more h (λ d. d .stamp ≤ 0) card2 card3 card4
+      (into-chain h (λ d. d .stamp ≤ 0) card2 (ready2 .size) 1 (omega arith) (omega arith) (idx ∷ []) ((fine-idx, omega arith), tt))
+      (into-chain h (λ d. d .stamp ≤ 0) card3 (fb1 .ready .size) 2 (omega arith) n2 (dummy ∷ []) ((fine-dummy, omega arith), tt))
+
+  top4 : stampOn h card4 ≡ 0
+  top4 =
+      let le = chain-top h 0 card2 card4 (ready2 .size) chain4 (λ j lo hi. let a = ap stampOf (same2 j (omega arith)) in let b = stamps0 j lo in omega arith) in
+      omega arith
+
+  pub begun : Keeps h card4 (λ t. nothing) 0 0
   unfolding state4
   begun = record {
     height = 1;
+    now = nothing;
     state = state4;
-    upto = upto4;
-    mark = inl refl;
+    calm = λ t x le. refl;
+    top = top4;
     logs-upto = (omega arith, tt);
-    past = tt;
-    answers = λ t x lt. now-answers h card4 (now []) 1 state4 t
-        (λ c cs q. all-map (λ e. e .stamp ≤ 0) (λ e. e .stamp ≤ t) (λ e l. omega arith) cs (upto4 c cs q)) (omega arith, tt) x lt;
+    since = omega arith;
+    small = omega arith;
+    answers = λ t x le lt. now-ends h card4 nothing 1 state4 t (omega (arith, top4)) (omega arith, tt) x lt;
   }
+
+pub format-inv : (card : List ℕ) (h : Head) (new : List ℕ) → formatFor card h ≡ accept new
+    → (limits h ≡ true) × (length card ≡ sizeOf h) × (zeros card ≡ true) × (formatted h card ≡ new)
+unfolding formatFor
+format-inv card h new q =
+    let fits = eqb (length card) (sizeOf h) in
+    let a = passed (not (limits h & fits)) 8 (refuseIf (not (zeros card)) 9 (accept (formatted h card))) new q in
+    let b = passed (not (zeros card)) 9 (accept (formatted h card)) new (a .1) in
+    let c = and-true (limits h) fits (not-false (limits h & fits) (a .0)) in
+    let same : accept (formatted h card) ≡ accept new = b .1 in
+    (c .0, eqb-true (length card) (sizeOf h) (c .1), not-false (zeros card) (b .0), cc)
+
+-- a card that format makes of a blank one answers that nothing stands
+pub format-keeps : (card : List ℕ) (n m td ti : ℕ) (new : List ℕ) → format card n m td ti ≡ accept new → Keeps (meant n m td ti) new (λ t. nothing) 0 0
+unfolding format formatted blanksOf
+format-keeps card n m td ti new q =
+    let h = meant n m td ti in
+    let i = format-inv card h new q in
+    let l = limits-hold h (i .0) in
+    let m4 = l .m4 in
+    let n2 = l .n2 in
+    let blank : (c : ℕ) → 1 ≤ c → c ≤ h .n → raw h card c ≡ some [] = λ c p q. run-blank (h .n) card (base h c) (h .m) (λ j x y. zero-sector card j (i .2)) in
+    let room : (c : ℕ) → 1 ≤ c → c ≤ h .n → length (blanksOf h card c) ≡ h .m = λ c p q. blank-room (h .n) card (base h c) (h .m) (blank c p q) in
+    let r1 = room 1 (omega arith) (omega arith) in
+    let r2 = room 2 (omega arith) (omega arith) in
+    subst (λ z. Keeps h z (λ t. nothing) 0 0) (i .3)
+    (begun h (i .0) card (sym (i .1)) (zero-bytes card (i .2)) (λ j lt. zero-sector card j (i .2)) blank (λ j lo. stamp-blank (sectorAt card j) (zero-sector card j (i .2))) (omega arith) (omega arith)
+    (l .n2) (l .n4096) (l .m4) (l .m32) (l .tdm) (l .tim))

@@ -21,7 +21,7 @@ use Rattle.laws.proofs.Tools.{eq-or-ne, le-or-lt, true-and}
 use Rattle.laws.proofs.Lists.{All, all-append, all-map, copy-snoc-other, copy-snoc-same, follow-all, follow-gap, follow-le, upper, upper-gt, upper-le}
 use Rattle.laws.proofs.Blocks.{Good}
 use Rattle.laws.proofs.Bytes.{Fine}
-use Rattle.laws.proofs.Fresh.{placeIf-fresh}
+use Rattle.laws.proofs.Fresh.{placeIf-fresh, climb-mono}
 use Rattle.laws.proofs.Heads.{Lim}
 use Rattle.tree.proofs.Tree.{Early, Kids, Reading, Shape, Span, Tree, tree-frame, tree-not, turn-data, turn-index}
 use Rattle.tree.proofs.Kids.{away, away-tree, kids-one, kids-two, same-upper}
@@ -282,14 +282,6 @@ module _ (h : Head) (lim : Lim h) (card : List ℕ) (g : ℕ → Option Entry) (
         → Outcome h card g (upd g e) (suc k) b lo hi (e .stamp) (placeIf h (e .stamp) (record { number = b; entries = es }) z r)) (sym (c .2))
         (place-level h card g (upd g e) (suc k) b lo hi (e .stamp) r es (two-up r (c .0) (c .1) lf (c .2) (c .3)))
 
-  pub climb-fresh : (p : List Visit) → f0 ≤ (climb h (e .stamp) p (start card e f0)) .fresh
-  unfolding climb
-  climb-fresh [] = omega arith
-  climb-fresh (v ∷ p) =
-      let a = climb-fresh p in
-      let c = placeIf-fresh h (e .stamp) v ((climb h (e .stamp) p (start card e f0)) .hand) (climb h (e .stamp) p (start card e f0)) in
-      omega arith
-
   pub climb-tree : (k b lo hi f : ℕ) → Tree (bucket h card) g k b lo hi → lo < hi → hi ≤ 4294967296 → lo ≤ e .key → e .key < hi → k < f
       → Climbs h card g e f0 t k b lo hi f
   unfolding climb met
@@ -307,7 +299,7 @@ module _ (h : Head) (lim : Lim h) (card : List ℕ) (g : ℕ → Option Entry) (
         v ∷ ih .0,
         path-index (bucket h card) g t early k b lo hi (e .key) f tr (c .0) (c .1) ∙ rw (ih .1),
         λ cap.
-            let cf = climb-fresh (ih .0) in
+            let cf = climb-mono h (e .stamp) (ih .0) (start card e f0) in
             let pf = placeIf-fresh h (e .stamp) v (r .hand) r in
             up k b lo hi tr lt h32 le lh r (omega arith) (ih .2 (omega arith)) cap,
       )

@@ -9,12 +9,9 @@ pub mod Climb
 pub mod LogStep
 pub mod Root
 pub mod Step
-pub mod Asked
-pub mod Stamps
-pub mod History
+pub mod Walks
+pub mod Ends
+pub mod Found
+pub mod Hops
+pub mod Keeps
 pub mod Begin
-pub mod Main
-pub mod NextTree
-pub mod NextData
-pub mod NextMain
-pub mod NextAll

@@ -1,5 +1,5 @@
 -- A card in order, and an accepted write.
-use mathlib.Core.Path.{_≡_, ap, ap₂}
+use mathlib.Core.Path.{_≡_, ap}
 use mathlib.Core.Logic.{⊎-elim}
 use mathlib.Core.Bool.{true}
 use mathlib.Core.Option.{Option, some}
@@ -12,7 +12,7 @@ use borrow.Author.Tests.{le-leb, le-ltb, lt-leb, lt-ltb}
 use Rattle.rules.specs.declared.Entry.{Entry}
 use Rattle.rules.specs.declared.Head.{Head}
 use Rattle.rules.specs.Bucket.{bucket, log, logBlanks, soundLog}
-use Rattle.rules.specs.Layout.{base, headIn, headOf}
+use Rattle.rules.specs.Layout.{base, headOf}
 use Rattle.rules.specs.Plain.{andThen, larger, largest, lastOf, only}
 use Rattle.rules.specs.Sector.{sectorAt}
 use Rattle.rules.specs.Walk.{follow, left, path, pathFrom, pathIn, walk}
@@ -35,7 +35,8 @@ pub record State (h : Head) (card : List ℕ) (g : ℕ → Option Entry) (k : �
   pub last-is : lastOf logs ≡ some last
   pub tree : Tree (bucket h card) g k (last .value) 0 4294967296
   pub whole : (c : ℕ) → 1 ≤ c → (es : List Entry) × (raw h card c ≡ some es)
-  pub tall : (b : ℕ) × (es : List Entry) × (bucket h card b ≡ some es) × (k + 1 ≤ b)
+  -- some bucket's number is above the height, and above the number of log entries: so neither the walk's N nor the log runs out
+  pub tall : (b : ℕ) × (es : List Entry) × (bucket h card b ≡ some es) × (k + 1 ≤ b) × (length logs < b)
 
 -- all stamps are below 4294967296
 good-left : (n : ℕ) (es : List Entry) → Good n es → left 4294967295 es ≡ es
@@ -46,10 +47,6 @@ good-left n es g =
 
 pub early-max : (h : Head) (card : List ℕ) → Bytes card → Early 4294967295 (bucket h card)
 early-max h card b c es q = good-left (h .n) es (run-good (h .n) card b (base h c) (h .m) es (bucket-raw h card c es q .1))
-
-pub head-same : (card card' : List ℕ) → sectorAt card' 0 ≡ sectorAt card 0 → length card' ≡ length card → headOf card' ≡ headOf card
-unfolding headOf
-head-same card card' s l = ap₂ headIn s l
 
 pub log-same : (h : Head) (card card' : List ℕ) → ((j : ℕ) → j < 1 + h .n → sectorAt card' j ≡ sectorAt card j) → log h card' ≡ log h card
 unfolding log

@@ -1,13 +1,13 @@
 -- An accepted write takes a card in order to a card in order that holds the new entry, and adds only what is stamped with it.
 use mathlib.Core.Path.{_∙_, _≡_, ap, refl, subst, sym}
 use mathlib.Core.Logic.{inl, inr}
-use mathlib.Core.Bool.{false, true}
+use mathlib.Core.Bool.{false, true, Bool}
 use mathlib.Core.Option.{Option, some}
 use Prim.Native.Nat.{_+_, _<_, _≤_, suc, ℕ}
 use native.Mathlib.Omega.{arith}
 use mathlib.Core.List.{List, [], _++_, _∷_, append-nil}
-use lib.ListN.{length}
-use borrow.Author.Tests.{le-leb, eqb-false}
+use lib.ListN.{length, length-append}
+use borrow.Author.Tests.{le-leb, eqb-false, ne-eqb, le-ltb}
 use lib.Dec.{eqb}
 use Rattle.rules.specs.declared.Entry.{Entry}
 use Rattle.rules.specs.declared.Head.{Head}
@@ -15,27 +15,28 @@ use Rattle.rules.specs.Bucket.{blanksOf, bucket, log, logBlanks}
 use Rattle.rules.specs.Layout.{base, sizeOf}
 use Rattle.rules.specs.Plain.{every}
 use Rattle.rules.specs.Rewrite.{Rise, fill, into, oneBucket}
-use Rattle.rules.specs.Sector.{isData, isIndex, isRoot, legal, rootEntry}
+use Rattle.rules.specs.Sector.{isData, isIndex, isRoot, legal, rootEntry, sectorAt}
 use Rattle.rules.specs.Walk.{Visit, path}
-use Rattle.rules.specs.Write.{accept, climb, finish, logFull, logged, planOn, rooted, topUsed}
-use Rattle.laws.proofs.Tools.{true-and}
+use Rattle.rules.specs.Write.{accept, climb, finish, logFull, logged, planOn, rooted, topUsed, refuseIf, checked}
+use Rattle.laws.proofs.Tools.{true-and, true-false}
 use Rattle.laws.proofs.Lists.{All, last-snoc}
 use Rattle.laws.proofs.Blocks.{blank-room}
 use Rattle.laws.proofs.Bytes.{Fine}
 use Rattle.laws.proofs.Buckets.{bucket-raw, bucket-within}
-use Rattle.laws.proofs.Fresh.{rooted-fresh}
-use Rattle.laws.proofs.Heads.{Lim, head-facts}
+use Rattle.laws.proofs.Fresh.{rooted-fresh, climb-mono, New, climb-new, freshAfter}
+use Rattle.laws.proofs.Heads.{Lim, head-facts, head-same}
 use Rattle.laws.proofs.Into.{Stays, stays-trans}
 use Rattle.laws.proofs.Plans.{checked-inv}
 use Rattle.laws.proofs.Used.{used-top}
+use Rattle.laws.proofs.Blanks.{blanks-left}
 use Rattle.tree.proofs.AsOf.{Grows, Late}
 use Rattle.tree.proofs.Tree.{Shape, Tree, tree-fresh}
 use Rattle.tree.proofs.Content.{shape-sound, tree-parts}
 use Rattle.tree.proofs.Place.{Closed, Mark, One, Open, Outcome, Two, Upto, upto-step}
 use Rattle.tree.proofs.Placed.{late-nil}
-use Rattle.tree.proofs.Climb.{climb-fresh, climb-tree, start, upd}
-use Rattle.tree.proofs.LogStep.{log-step}
-use Rattle.tree.proofs.Root.{State, early-max, head-same, kids-pair, log-blanks-same, log-same}
+use Rattle.tree.proofs.Climb.{climb-tree, start, upd}
+use Rattle.tree.proofs.LogStep.{log-step, log-raw}
+use Rattle.tree.proofs.Root.{State, early-max, kids-pair, log-blanks-same, log-same}
 use Rattle.tree.proofs.Ready.{fresh-bucket, ready-top}
 
 -- what an accepted write with the stamp s gives
@@ -88,7 +89,7 @@ module _ (h : Head) (card : List ℕ) (g g' : ℕ → Option Entry) (k s : ℕ) 
           last-is = st .last-is;
           tree = c .tree;
           whole = c .ready .whole;
-          tall = (tb .0, tb .1 ++ gr .0, gr .1, tb .3);
+          tall = (tb .0, tb .1 ++ gr .0, gr .1, tb .3, tb .4);
         };
         grows = c .grows;
         upto = c .upto;
@@ -98,17 +99,21 @@ module _ (h : Head) (card : List ℕ) (g g' : ℕ → Option Entry) (k s : ℕ) 
         log-grows = (ls ∙ ap some (sym (append-nil (st .logs))), late-nil s, tt);
       }
 
-  -- a new root b of height k' in the card card1, logged
+  -- a new root b of height k', a fresh bucket of the card card1, logged
   log-state : (card1 : List ℕ) (f b k' : ℕ) (es : List Entry) → Open h card card1 s f → 1 ≤ length (logBlanks h card1) → bucket h card1 b ≡ some es
-      → Tree (bucket h card1) g' k' b 0 4294967296 → (c : ℕ) × (cs : List Entry) × (bucket h card1 c ≡ some cs) × (k' + 1 ≤ c)
+      → Tree (bucket h card1) g' k' b 0 4294967296 → k' + 1 ≤ b → topUsed h card (h .n) < b
       → Wrote h card (fill card1 (logBlanks h card1) (rootEntry s b ∷ [])) g' s (st .logs)
-  log-state card1 f b k' es op room bq tr tb =
+  log-state card1 f b k' es op room bq tr kb nb =
       let ls = log-same h card card1 (op .front) ∙ st .log-is in
       let r = bucket-raw h card1 b es bq in
       let w = bucket-within h card1 b es (op .ready .size) bq in
       let lg = log-step h card1 f (st .logs) (rootEntry s b) (op .ready) ls room (root-fine (h .n) s b s32 (r .0) w (lim .n4096)) (is-root s b) in
       let card' = fill card1 (logBlanks h card1) (rootEntry s b ∷ []) in
       let same : (c : ℕ) (cs : List Entry) → bucket h card1 c ≡ some cs → bucket h card' c ≡ some cs = λ c cs q. lg .same c ∙ q in
+      let tb = st .tall in
+      let before = tb .4 in
+      let used = used-top h card (tb .0) (tb .1) size (tb .2) in
+      let more = length-append (st .logs) (rootEntry s b ∷ []) in
       record {
         height = k';
         state = record {
@@ -120,7 +125,7 @@ module _ (h : Head) (card : List ℕ) (g g' : ℕ → Option Entry) (k s : ℕ) 
           last-is = last-snoc (st .logs) (rootEntry s b);
           tree = tree-fresh (bucket h card1) (bucket h card') g' same k' b 0 4294967296 tr;
           whole = lg .ready .whole;
-          tall = (tb .0, tb .1, same (tb .0) (tb .1) (tb .2), tb .3);
+          tall = (b, es, same b es bq, kb, omega arith);
         };
         grows = all-grows h card card' s (λ c cs q. same c cs (op .same c cs q));
         mark = (let m = op .mark in (m .0, m .1, same (m .0) (m .1) (m .2), m .3));
@@ -130,18 +135,20 @@ module _ (h : Head) (card : List ℕ) (g g' : ℕ → Option Entry) (k s : ℕ) 
         log-grows = (lg .logged, late-root s b, (omega arith, tt));
       }
 
-  one-state : (r : Rise) (p : Entry) → 1 ≤ length (logBlanks h (r .card)) → One h card (r .card) g' k 0 4294967296 s (r .fresh) p
+  one-state : (r : Rise) (p : Entry) → 1 ≤ length (logBlanks h (r .card)) → topUsed h card (h .n) < p .value → One h card (r .card) g' k 0 4294967296 s (r .fresh) p
       → Wrote h card (fill (r .card) (logBlanks h (r .card)) (rootEntry s (p .value) ∷ [])) g' s (st .logs)
-  one-state r p room o =
+  one-state r p room nb o =
       let tp = tree-parts (bucket h (r .card)) g' k (p .value) 0 4294967296 (o .tree1) in
       let tb = st .tall in
-      log-state (r .card) (r .fresh) (p .value) k (tp .0) (o .opened) room (tp .1) (o .tree1) (tb .0, tb .1, o .opened .same (tb .0) (tb .1) (tb .2), tb .3)
+      let tl = tb .3 in
+      let used = used-top h card (tb .0) (tb .1) size (tb .2) in
+      log-state (r .card) (r .fresh) (p .value) k (tp .0) (o .opened) room (tp .1) (o .tree1) (omega arith) nb
 
   -- a root above two buckets, in the fresh bucket f
-  two-state : (r : Rise) (p q : Entry) (f : ℕ) → 1 ≤ length (logBlanks h (r .card)) → r .fresh ≤ f → f ≤ h .n → 2 ≤ length (blanksOf h (r .card) f) → k + 2 ≤ f
+  two-state : (r : Rise) (p q : Entry) (f : ℕ) → 1 ≤ length (logBlanks h (r .card)) → r .fresh ≤ f → f ≤ h .n → 2 ≤ length (blanksOf h (r .card) f) → k + 2 ≤ f → topUsed h card (h .n) < f
       → Two h card (r .card) g' k 0 4294967296 s (r .fresh) p q
       → Wrote h card (fill (into h f (p ∷ q ∷ []) (r .card)) (logBlanks h (into h f (p ∷ q ∷ []) (r .card))) (rootEntry s f ∷ [])) g' s (st .logs)
-  two-state r p q f room rf fn fr kf o =
+  two-state r p q f room rf fn fr kf nb o =
       let card1 = r .card in
       let es : List Entry = p ∷ q ∷ [] in
       let pr = o .pair1 in
@@ -161,7 +168,7 @@ module _ (h : Head) (card : List ℕ) (g g' : ℕ → Option Entry) (k s : ℕ) 
             (tree-fresh (bucket h card1) (bucket h card2) g' (fb .same) k (p .value) 0 (q .key) (o .tree1))
             (tree-fresh (bucket h card1) (bucket h card2) g' (fb .same) k (q .value) (q .key) 4294967296 (o .tree2)),
       ) in
-      log-state card2 (f + 1) f (suc k) es op (subst (λ z. 1 ≤ length z) (sym (log-blanks-same h card1 card2 (fb .front))) room) (fb .here) tr (f, es, fb .here, omega arith)
+      log-state card2 (f + 1) f (suc k) es op (subst (λ z. 1 ≤ length z) (sym (log-blanks-same h card1 card2 (fb .front))) room) (fb .here) tr (omega arith) nb
 
 module _ (h : Head) (card : List ℕ) (g g' : ℕ → Option Entry) (k s : ℕ) (st : State h card g k) (s32 : s < 4294967296) where
   -- a log that is not full has a blank
@@ -171,21 +178,51 @@ module _ (h : Head) (card : List ℕ) (g g' : ℕ → Option Entry) (k s : ℕ) 
   abbrev End : Rise → List Entry → Type 0
   End r top = (rooted h s top r) .fresh ≤ h .n + 1 → logFull h (r .card) top ≡ false → Wrote h card ((rooted h s top r) .card) g' s (st .logs)
 
-  ending : (r : Rise) → topUsed h card (h .n) + 1 ≤ r .fresh → k + 1 ≤ topUsed h card (h .n) → Outcome h card g g' k (st .last .value) 0 4294967296 s r → End r (r .hand)
+  ending : (r : Rise) → topUsed h card (h .n) + 1 ≤ r .fresh → k + 1 ≤ topUsed h card (h .n) → All (New (topUsed h card (h .n) + 1)) (r .hand) → Outcome h card g g' k (st .last .value) 0 4294967296 s r → End r (r .hand)
   unfolding rooted logged oneBucket logFull blanksOf
-  ending r ff tall (inl c) = subst (End r) (sym (c .0)) (λ cap room. closed-state h card g g' k s st s32 (r .card) (r .fresh) (c .1))
-  ending r ff tall (inr (inl c)) = subst (End r) (sym (c .1)) (λ cap room. one-state h card g g' k s st s32 r (c .0) (log-room (r .card) room) (c .2))
-  ending r ff tall (inr (inr c)) = subst (End r) (sym (c .2))
+  ending r ff tall nw (inl c) = subst (End r) (sym (c .0)) (λ cap room. closed-state h card g g' k s st s32 (r .card) (r .fresh) (c .1))
+  ending r ff tall nw (inr (inl c)) = subst (End r) (sym (c .1))
+      (λ cap room.
+      let pn = subst (All (New (topUsed h card (h .n) + 1))) (c .1) nw .0 (c .2 .pair1 .1) in
+      one-state h card g g' k s st s32 r (c .0) (log-room (r .card) room) (omega arith) (c .2))
+  ending r ff tall nw (inr (inr c)) = subst (End r) (sym (c .2))
       (λ cap room.
       let m4 = head-facts card h (st .head) .0 .m4 in
       let fr = blank-room (h .n) (r .card) (base h (r .fresh)) (h .m) (c .3 .opened .ready .blank (r .fresh) (omega arith) (omega arith)) in
-      two-state h card g g' k s st s32 r (c .0) (c .1) (r .fresh) (log-room (r .card) room) (omega arith) (omega arith) (omega arith) (omega arith) (c .3))
+      two-state h card g g' k s st s32 r (c .0) (c .1) (r .fresh) (log-room (r .card) room) (omega arith) (omega arith) (omega arith) (omega arith) (omega arith) (c .3))
 
--- an accepted write
+-- the log of a card in order has a blank
+log-open : (h : Head) (card : List ℕ) (g : ℕ → Option Entry) (k : ℕ) (st : State h card g k) → 1 ≤ length (logBlanks h card)
+unfolding logBlanks
+log-open h card g k st =
+    let tb = st .tall in
+    let more = tb .4 in
+    let within = bucket-within h card (tb .0) (tb .1) (head-facts card h (st .head) .1) (tb .2) in
+    let rest = blanks-left (h .n) card 1 (h .n) (st .logs) (log-raw h card (st .logs) (st .log-is) .0) in
+    omega arith
+
+-- no level writes into the log
+outcome-front : (h : Head) (card : List ℕ) (g g' : ℕ → Option Entry) (k b lo hi s : ℕ) (r : Rise) → Outcome h card g g' k b lo hi s r
+    → (j : ℕ) → j < 1 + h .n → sectorAt (r .card) j ≡ sectorAt card j
+outcome-front h card g g' k b lo hi s r (inl c) = c .1 .front
+outcome-front h card g g' k b lo hi s r (inr (inl c)) = c .2 .opened .front
+outcome-front h card g g' k b lo hi s r (inr (inr c)) = c .3 .opened .front
+
+log-free : (h : Head) (card : List ℕ) (top : List Entry) → 1 ≤ length (logBlanks h card) → logFull h card top ≡ false
+unfolding logFull
+log-free h card [] room = refl
+log-free h card (e ∷ es) room = ne-eqb (length (logBlanks h card)) 0 (λ z. omega arith)
+
+checked-accept : (h : Head) (full : Bool) (r : Rise) → r .fresh ≤ h .n + 1 → full ≡ false → checked h full r ≡ accept (r .card)
+unfolding checked refuseIf
+checked-accept h full r le free = rw (le-ltb (h .n + 1) (r .fresh) le, free)
+
+-- a write: what it leaves if it is accepted, and that it is if the fresh buckets needed remain
 pub write-step : (h : Head) (card : List ℕ) (g : ℕ → Option Entry) (k : ℕ) (st : State h card g k) (e : Entry) → Fine (h .n) e → (isIndex e ≡ false) × (isData e ≡ true) → Upto (e .stamp) (bucket h card)
     → (p : List Visit) × (path (bucket h card) 4294967295 (e .key) (h .n) (st .last .value) 0 ≡ some p)
     × ((new : List ℕ) → planOn h card e p ≡ accept new → Wrote h card new (upd g e) (e .stamp) (st .logs))
-unfolding planOn finish
+    × (freshAfter h card e p ≤ h .n + 1 → (new : List ℕ) × (planOn h card e p ≡ accept new))
+unfolding planOn finish freshAfter
 write-step h card g k st e fine isd upto =
     let hf = head-facts card h (st .head) in
     let tb = st .tall in
@@ -198,7 +235,8 @@ write-step h card g k st e fine isd upto =
     let ct = climb-tree h (hf .0) card g 4294967295 early e fine isd f0 ready (omega arith) upto k (st .last .value) 0 4294967296 (h .n) (st .tree)
     (omega arith) (omega arith) (omega arith) (fine .0 .key) (omega arith) in
     let r = climb h (e .stamp) (ct .0) (start card e f0) in
-    let cf = climb-fresh h (hf .0) card g 4294967295 early e fine isd f0 ready (omega arith) upto (ct .0) in (
+    let cf = climb-mono h (e .stamp) (ct .0) (start card e f0) in
+    let nw = climb-new h (e .stamp) f0 (ct .0) (start card e f0) (omega arith) ((λ i. absurd (true-false (sym i ∙ isd .0))), tt) in (
       ct .0,
       ct .1,
       λ new q.
@@ -206,5 +244,11 @@ write-step h card g k st e fine isd upto =
           let rf = rooted-fresh h (e .stamp) (r .hand) r in
           let cap = ci .0 in
           subst (λ z. Wrote h card z (upd g e) (e .stamp) (st .logs)) (ci .2)
-          (ending h card g (upd g e) k (e .stamp) st (fine .0 .stamp) r cf (omega arith) (ct .2 (omega arith)) (ci .0) (ci .1)),
+          (ending h card g (upd g e) k (e .stamp) st (fine .0 .stamp) r cf (omega arith) nw (ct .2 (omega arith)) (ci .0) (ci .1)),
+      λ cap.
+          let rf = rooted-fresh h (e .stamp) (r .hand) r in
+          let front = outcome-front h card g (upd g e) k (st .last .value) 0 4294967296 (e .stamp) r (ct .2 (omega arith)) in
+          let room = subst (λ z. 1 ≤ length z) (sym (log-blanks-same h card (r .card) front)) (log-open h card g k st) in
+          let last = rooted h (e .stamp) (r .hand) r in
+          (last .card, checked-accept h (logFull h (r .card) (r .hand)) last cap (log-free h (r .card) (r .hand) room)),
     )

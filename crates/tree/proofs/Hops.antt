@@ -15,8 +15,8 @@ use Rattle.rules.specs.Walk.{Visit, dataOf, left}
 use Rattle.laws.proofs.Tools.{le-or-lt}
 use Rattle.laws.proofs.Lists.{all-map}
 use Rattle.tree.proofs.Tree.{Span}
-use Rattle.tree.proofs.NextTree.{Ends, above}
-use Rattle.tree.proofs.NextData.{data-next}
+use Rattle.tree.proofs.Ends.{Ends, above}
+use Rattle.tree.proofs.Found.{data-next}
 
 abbrev pub answerOf : Entry → Answer
 answerOf e = record { code = 0; bib = e .key; at = e .stamp; time = e .value; reads = 0 }

@@ -17,7 +17,7 @@ use Rattle.laws.proofs.Tools.{and-true, none-some, true-and}
 use Rattle.laws.proofs.Lists.{All, all-map, only-all, only-back, only-true}
 use Rattle.laws.proofs.Copies.{copy-cons, cstep}
 use Rattle.tree.proofs.Place.{copy-all, last-all}
-use Rattle.tree.proofs.NextTree.{smaller-pick}
+use Rattle.tree.proofs.Ends.{smaller-pick}
 
 -- a copy has the key
 copy-key : (x : ℕ) (es : List Entry) (e : Entry) → copyOf x es ≡ some e → e .key ≡ x

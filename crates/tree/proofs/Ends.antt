@@ -1,22 +1,24 @@
--- The walk's end with its range, and the smallest index key above: for next.
-use mathlib.Core.Path.{_∙_, _≡_, ap, refl, sym}
-use mathlib.Core.Logic.{_⊎_, inl, inr, ⊎-elim}
-use mathlib.Core.Bool.{false, true}
-use mathlib.Core.Option.{Option, none, some}
+-- Where a walk ends: the data bucket with its range of keys, and the smallest index key above.
 use Prim.Native.Nat.{_<_, _≤_, suc, zero, ℕ}
-use native.Mathlib.Omega.{arith}
-use mathlib.Core.List.{List, [], _++_, _∷_}
-use lib.ListN.{length}
+use borrow.Author.Tests.{le-leb, lt-leb, le-ltb, lt-ltb, ltb-true}
 use lib.Dec.{leb, ltb}
-use borrow.Author.Tests.{le-leb, le-ltb, lt-leb, lt-ltb, ltb-true}
+use lib.ListN.{length}
+use mathlib.Core.Bool.{false, true}
+use mathlib.Core.List.{List, [], _++_, _∷_}
+use mathlib.Core.Logic.{_⊎_, inl, inr, ⊎-elim}
+use mathlib.Core.Option.{Option, none, some}
+use mathlib.Core.Path.{_∙_, _≡_, ap, refl, subst, sym}
+use native.Mathlib.Omega.{arith}
 use Rattle.rules.specs.declared.Entry.{Entry}
 use Rattle.rules.specs.Next.{indexOn}
 use Rattle.rules.specs.Plain.{only, smaller, smallest}
 use Rattle.rules.specs.Sector.{isIndex}
-use Rattle.rules.specs.Walk.{Visit, copyOf, dataOf, downTo, go, goIn, left, met, path, standing}
-use Rattle.laws.proofs.Tools.{le-or-lt}
-use Rattle.laws.proofs.Lists.{All, all-map, follow-all, follow-le, only-all, only-append, only-true, upper, upper-all, upper-gt, upper-le}
+use Rattle.rules.specs.Walk.{Visit, copyOf, dataOf, downTo, go, goIn, left, met, path, standing, standsOn}
 use Rattle.laws.proofs.Halves.{only-every, only-none}
+use Rattle.laws.proofs.Lists.{All, all-map, follow-all, follow-le, only-all, only-append, only-true, upper, upper-all, upper-gt, upper-le}
+use Rattle.laws.proofs.Tools.{le-or-lt}
+use Rattle.tree.proofs.AsOf.{Alike}
+use Rattle.tree.proofs.Walks.{alike-data, alike-index}
 use Rattle.tree.proofs.Tree.{Early, Reading, Shape, Span, Tree, data-cons, turn-data, turn-index}
 
 abbrev pub above : ℕ → List Entry → List Entry
@@ -68,9 +70,9 @@ unfolding smallest smaller
 small-append-some [] bs e q a = q
 small-append-some (d ∷ ls) bs e q a = ap (smaller d) (small-append-some ls bs e q (a .1)) ∙ rw (le-leb (e .key) (d .key) (a .0))
 
-nothing : (x t : ℕ) (es : List Entry) → only isIndex es ≡ [] → smallest (above x (left t (only isIndex es ++ []))) ≡ none
+no-index : (x t : ℕ) (es : List Entry) → only isIndex es ≡ [] → smallest (above x (left t (only isIndex es ++ []))) ≡ none
 unfolding smallest only left
-nothing x t es e = ap (λ z. smallest (above x (left t (z ++ [])))) e
+no-index x t es e = ap (λ z. smallest (above x (left t (z ++ [])))) e
 
 pub all-both : (P Q : Entry → Type 0) (es : List Entry) → All P es → All Q es → All (λ e. P e × Q e) es
 all-both P Q [] a b = tt
@@ -130,7 +132,7 @@ tree-ends rd g t early zero b lo hi tr x p q (suc f) lt =
         range = (omega arith, p, q, omega arith);
         shape = rw le (tr .2);
         content = λ y a c. rw le (tr .3 y a c);
-        least = inl (nothing x t es ix, refl);
+        least = inl (no-index x t es ix, refl);
       },
     )
 tree-ends rd g t early (suc h) b lo hi tr x p q (suc f) lt =
@@ -159,3 +161,24 @@ tree-ends rd g t early (suc h) b lo hi tr x p q (suc f) lt =
             (all-map (Span true lo hi) (λ z. z .key < hi) (λ z w. w .2) es (tr .2 .1)) (en .least);
       },
     )
+
+pub ends-alike : (g : ℕ → Option Entry) (t x lo hi : ℕ) (p q : List Visit) → Alike t p q → Ends g t x lo hi p → Ends g t x lo hi q
+ends-alike g t x lo hi p q a en =
+    let d = alike-data t p q a in
+    record {
+      low = en .low;
+      high = en .high;
+      range = en .range;
+      shape = subst (Shape false (en .low) (en .high)) d (en .shape);
+      content = λ y i j. ap (λ z. standing (copyOf y z)) (sym d) ∙ en .content y i j;
+      least = subst (λ z. Least x z (en .high) hi) (alike-index t p q a) (en .least);
+    }
+
+pub ends-ext : (g g' : ℕ → Option Entry) (t x lo hi : ℕ) (p : List Visit) → ((y : ℕ) → g y ≡ g' y) → Ends g t x lo hi p → Ends g' t x lo hi p
+ends-ext g g' t x lo hi p same en =
+    record { low = en .low; high = en .high; range = en .range; shape = en .shape; content = λ y i j. en .content y i j ∙ same y; least = en .least }
+
+-- the bucket where the walk ends tells of x itself
+pub ends-here : (g : ℕ → Option Entry) (t x lo hi : ℕ) (p : List Visit) → Ends g t x lo hi p → standsOn t x p ≡ g x
+unfolding standsOn
+ends-here g t x lo hi p en = let r = en .range in en .content x (r .1) (r .2)
