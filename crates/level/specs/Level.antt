@@ -7,6 +7,7 @@ use Rattle.rules.specs.declared.Entry.{Entry}
 use Rattle.rules.specs.Plain.{if}
 use Rattle.rules.specs.Sector.{put, encode}
 use Rattle.rules.specs.Rewrite.{pair}
+use Rattle.laws.proofs.Lists.{All}
 use Rattle.level.specs.declared.Sent.{Sent}
 
 abbrev pub sentList : Sent → List Entry
@@ -31,7 +32,6 @@ pairsOf s td fresh es =
 abbrev pub needOf : ℕ → List Entry → ℕ
 needOf td es = if (ltb (length es) td) 1 2
 
--- a kind that one byte holds
+-- kinds that one byte holds
 abbrev pub AllSmall : List Entry → Type 0
-AllSmall [] = Unit {0}
-AllSmall (e ∷ es) = (e .kind < 256) × AllSmall es
+AllSmall es = All (λ e. e .kind < 256) es

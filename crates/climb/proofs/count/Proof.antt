@@ -1,0 +1,108 @@
+-- `climb::count` foretells what the write needs. What the levels left give from here is what all give from the start.
+use borrow.Author.Needs.{needs}
+use mathlib.Core.Path.{_≡_, refl, ap, sym, _∙_}
+use mathlib.Core.List.{List, []}
+use Prim.Native.Nat.{ℕ, _+_, _-_, _*_, _≤_}
+use native.Mathlib.Omega.{arith}
+use lib.ListN.{length, drop}
+use lib.ListN.{drop-of-length-le}
+use Rattle.level.specs.Level.{sentList, AllSmall}
+use Rattle.climb.specs.Levels.{tally, countOn, needsOf, freshOver, isOpen, AllRead}
+use Rattle.climb.proofs.Counting.{read-at, ends-here, goes-on, count-none}
+use Rattle.climb.proofs.count.Statement.{statement}
+use Rattle.climb.proofs.count.Tie as tie
+
+abbrev Inv-loop : tie.InvT-loop
+Inv-loop card head path at fresh stamp m i₀ sent₀ next₀ i sent next = (i ≤ length path) × (at ≤ i) × (next ≤ fresh + 2 * (i - at)) × AllSmall (sentList sent) × AllRead head card (drop i path) × (countOn head stamp card (drop i path) (tally (sentList sent) next) ≡ countOn head stamp card (drop at path) (tally (sentList sent₀) fresh))
+
+abbrev μ-loop : tie.MeasureT-loop
+μ-loop card head path at fresh stamp m i₀ sent₀ next₀ i sent next = length path - i
+
+loop-holds : tie.Need-loop-holds Inv-loop μ-loop
+loop-holds c = let o = c .before .before in (search needs, search needs, search needs, o .pre .0 .2, o .pre .0 .1, refl)
+
+mul-b : tie.Need-mul-b Inv-loop μ-loop
+mul-b c = search needs
+
+shared-slice-read-b : tie.Need-shared-slice-read-b Inv-loop μ-loop
+shared-slice-read-b c = search needs
+
+used-in-requires : tie.Need-used-in-requires Inv-loop μ-loop
+used-in-requires c κs =
+    let l = c .before .before .loop in
+    let o = c .before .before .before .before .before in
+    (o .pre .0 .0, read-at (o .args .head) (o .args .card .now) (o .args .path .now) (l .i) (search needs) (l .inv .4) .0)
+
+sent-count-requires : tie.Need-sent-count-requires Inv-loop μ-loop
+sent-count-requires c κs = search needs
+
+add-if1 : tie.Need-add-if1 Inv-loop μ-loop
+add-if1 c = search needs
+
+returns : tie.Need-returns Inv-loop μ-loop
+unfolding needsOf freshOver isOpen
+returns c =
+    let l = c .before .before .before .before .before .loop in
+    let o = c .before .before .before .before .before .before .before .before in
+    ap needsOf
+    (ends-here (o .args .head) (o .args .stamp) (o .args .card .now) (o .args .path .now) (l .i) (l .sent) (l .next) _ _ _ (o .pre .0 .0) (l .inv .4) (l .inv .5) (search needs)
+    (c .before .before .used-in .ensures .0) (c .before .sent-count .ensures .0) (c .if1 .taken))
+
+renewal-requires : tie.Need-renewal-requires Inv-loop μ-loop
+renewal-requires c κs =
+    let l = c .before .before .before .before .before .loop in
+    let o = c .before .before .before .before .before .before .before .before in (
+      (o .pre .0 .0, read-at (o .args .head) (o .args .card .now) (o .args .path .now) (l .i) (search needs) (l .inv .4) .0, c .before .before .used-in .ensures .0),
+      (l .inv .3, omega (arith, l .inv .1, l .inv .2, o .pre .1)),
+    )
+
+add-i : tie.Need-add-i Inv-loop μ-loop
+add-i c = search needs
+
+loop-less : tie.Need-loop-less Inv-loop μ-loop
+loop-less c = search needs
+
+loop-again : tie.Need-loop-again Inv-loop μ-loop
+loop-again c =
+    let l = c .before .before .before .before .before .before .before .loop in
+    let o = c .before .before .before .before .before .before .before .before .before .before in
+    let on = c .before .renewal .ensures in
+    let u = c .before .before .before .before .used-in .ensures in (
+      search needs,
+      search needs,
+      omega (arith, l .inv .2, on .most),
+      on .small,
+      read-at (o .args .head) (o .args .card .now) (o .args .path .now) (l .i) (search needs) (l .inv .4) .1,
+      goes-on (o .args .head) (o .args .stamp) (o .args .card .now) (o .args .path .now) (l .i) (l .sent) (l .next) _ _ _ (o .pre .0 .0) (l .inv .4) (l .inv .5) (search needs)
+          (u .0) (c .before .before .before .sent-count .ensures .0) (search needs) (u .2) (c .before .renewal .result) on,
+    )
+
+over-requires : tie.Need-over-requires Inv-loop μ-loop
+over-requires c κs = let l = c .before .loop in let o = c .before .before .before .before in omega (arith, l .inv .1, l .inv .2, o .pre .1)
+
+returns-2 : tie.Need-returns-2 Inv-loop μ-loop
+returns-2 c =
+    let l = c .before .before .loop in
+    let o = c .before .before .before .before .before in
+    let none : drop (l .i) (o .args .path .now) ≡ [] = drop-of-length-le (o .args .path .now) {i = l .i} (search needs) in
+    c .over .ensures ∙ ap needsOf (sym (ap (λ (bs : List ℕ). countOn (o .args .head) (o .args .stamp) (o .args .card .now) bs (tally (sentList (l .sent)) (l .next))) none ∙ count-none (o .args .head) (o .args .stamp) (o .args .card .now) _) ∙ l .inv .5)
+
+pub count-spec : {M : Type 1} → statement M
+count-spec =
+    tie.close
+    (tie.spec
+    Inv-loop
+    μ-loop
+    loop-holds
+    mul-b
+    shared-slice-read-b
+    used-in-requires
+    sent-count-requires
+    add-if1
+    returns
+    renewal-requires
+    add-i
+    loop-less
+    loop-again
+    over-requires
+    returns-2)

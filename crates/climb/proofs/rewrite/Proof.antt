@@ -1,0 +1,46 @@
+-- `climb::rewrite` fills the fresh buckets of a level and hands on their pairs.
+use borrow.Author.Needs.{needs}
+use mathlib.Core.Path.{refl}
+use native.Mathlib.Omega.{arith}
+use Rattle.climb.proofs.Reading.{reads}
+use Rattle.climb.proofs.rewrite.Statement.{statement}
+use Rattle.climb.proofs.rewrite.Tie as tie
+
+kept-in-requires : tie.Need-kept-in-requires
+kept-in-requires c κs = search needs
+
+limit-in-requires : tie.Need-limit-in-requires
+limit-in-requires c κs = search needs
+
+write-own-requires : tie.Need-write-own-requires
+write-own-requires c κs =
+    let o = c .before .before .before .before .before .before in
+    let k = c .before .before .before .kept-in .ensures in
+    let lm = c .before .limit-in .ensures in
+    let rd = reads (o .args .head) (o .args .card .now) (o .args .b) (o .pre .0 .0 .shape) (o .pre .0 .1) in (
+      (o .pre .0 .0, rw (lm .0, k .0 .all) (o .pre .1)),
+      (record { count = k .0 .count; long = k .0 .long; most = k .0 .most; all = refl; small = k .0 .small }, omega (arith, k .1, o .pre .0 .2, rd .room), lm .2),
+    )
+
+sent-up-requires : tie.Need-sent-up-requires
+sent-up-requires c κs = search needs
+
+same-length : tie.Need-same-length
+same-length c = search needs
+
+returns : tie.Need-returns
+returns c =
+    let k = c .before .before .before .before .before .before .before .kept-in .ensures .0 .all in
+    let lm = c .before .before .before .before .before .limit-in .ensures .0 in
+    (rw (← lm, ← k) (c .sent-up .ensures), rw (← lm, ← k) (c .before .before .before .write-own .ensures))
+
+pub rewrite-spec : {M : Type 1} → statement M
+rewrite-spec =
+    tie.close
+    (tie.spec
+    kept-in-requires
+    limit-in-requires
+    write-own-requires
+    sent-up-requires
+    same-length
+    returns)

@@ -1,0 +1,52 @@
+-- `climb::write_in` fills the first blanks of a bucket.
+use borrow.Author.Needs.{needs}
+use mathlib.Core.Path.{_≡_, ap, sym, _∙_}
+use Prim.Native.Nat.{ℕ, _+_}
+use native.Mathlib.Omega.{arith}
+use lib.ListN.{length}
+use mathlib.Core.Path.{ap₂}
+use Rattle.rules.specs.Layout.{base}
+use Rattle.level.specs.Level.{sentList, puts}
+use Rattle.laws.proofs.Heads.{bucket-fits}
+use Rattle.climb.specs.Levels.{entriesOn}
+use Rattle.climb.proofs.Reading.{reads}
+use Rattle.climb.proofs.Laying.{into-puts}
+use Rattle.climb.proofs.Counting.{base-small}
+use Rattle.climb.proofs.write_in.Statement.{statement}
+use Rattle.climb.proofs.write_in.Tie as tie
+
+first-sector-requires : tie.Need-first-sector-requires
+first-sector-requires c κs = let o = c .before in let rd = reads (o .args .head) (o .args .card .now) (o .args .b) (o .pre .0 .0) (o .pre .0 .1) in (o .pre .0 .0 .lim .m32, o .pre .0 .0 .lim .n4096, rd .one, rd .most)
+
+add-write-sent : tie.Need-add-write-sent
+unfolding base
+add-write-sent c =
+    let o = c .before .before .before in
+    let rd = reads (o .args .head) (o .args .card .now) (o .args .b) (o .pre .0 .0) (o .pre .0 .1) in
+    let l = o .pre .0 .0 .lim in
+    let k = base-small (o .args .head .m) (o .args .head .n) (o .args .b) (l .m32) (l .n4096) (rd .most) in
+    omega (arith, c .before .first-sector .ensures, o .pre .1)
+
+write-sent-requires : tie.Need-write-sent-requires
+write-sent-requires c κs =
+    let o = c .before .before .before in
+    let rd = reads (o .args .head) (o .args .card .now) (o .args .b) (o .pre .0 .0) (o .pre .0 .1) in
+    let fits = bucket-fits (o .args .head) (o .args .card .now) (o .args .b) (o .pre .0 .0 .long) (rd .one) (rd .most) in
+    (omega (arith, c .before .first-sector .ensures, o .pre .1), o .pre .0 .3)
+
+same-length : tie.Need-same-length
+same-length c = search needs
+
+returns : tie.Need-returns
+returns c =
+    let o = c .before .before .before .before .before .before in
+    let rd = reads (o .args .head) (o .args .card .now) (o .args .b) (o .pre .0 .0) (o .pre .0 .1) in
+    let es = entriesOn (o .args .head) (o .args .card .now) (o .args .b) in
+    let at : c .before .before .before .before .first-sector .result + o .args .used ≡ base (o .args .head) (o .args .b) + length es = ap₂ (λ (x y : ℕ). x + y) (c .before .before .before .before .first-sector .ensures) (o .pre .0 .2) in
+    c .before .before .write-sent .ensures ∙ ap (λ (k : ℕ). puts (o .args .card .now) k (sentList (o .args .p))) at
+    ∙ sym (into-puts (o .args .head) (o .args .card .now) (o .args .b) es (sentList (o .args .p)) (rd .raws) (omega (arith, o .pre .0 .2, o .pre .1)))
+
+pub write-in-spec : {M : Type 1} → statement M
+write-in-spec =
+    tie.close
+    (tie.spec first-sector-requires add-write-sent write-sent-requires same-length returns)

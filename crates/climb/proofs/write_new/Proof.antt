@@ -1,0 +1,42 @@
+-- `climb::write_new` fills one fresh bucket.
+use borrow.Author.Needs.{needs}
+use mathlib.Core.Path.{_≡_, ap, sym, _∙_}
+use mathlib.Core.List.{[]}
+use Prim.Native.Nat.{ℕ, _+_, _-_}
+use native.Mathlib.Omega.{arith}
+use lib.ListN.{length}
+use lib.Seq.{slice}
+use lib.Seq.{length-slice}
+use Rattle.rules.specs.Layout.{base}
+use Rattle.level.specs.Level.{puts}
+use Rattle.laws.proofs.Heads.{bucket-fits}
+use Rattle.climb.proofs.Laying.{into-puts}
+use Rattle.climb.proofs.write_new.Statement.{statement}
+use Rattle.climb.proofs.write_new.Tie as tie
+
+first-sector-requires : tie.Need-first-sector-requires
+first-sector-requires c κs = let o = c .before in (o .pre .0 .0 .lim .m32, o .pre .0 .0 .lim .n4096, o .pre .0 .1, o .pre .0 .2)
+
+write-run-requires : tie.Need-write-run-requires
+write-run-requires c κs =
+    let o = c .before .before .before in
+    let fits = bucket-fits (o .args .head) (o .args .card .now) (o .args .b) (o .pre .0 .0 .long) (o .pre .0 .1) (o .pre .0 .2) in
+    let e = c .before .first-sector .ensures in
+    (o .pre .1 .0, o .pre .1 .1, omega (arith, o .pre .1 .2), o .pre .1 .4)
+
+same-length : tie.Need-same-length
+same-length c = search needs
+
+returns : tie.Need-returns
+returns c =
+    let o = c .before .before .before .before .before .before in
+    let card = o .args .card .now in
+    let new = slice (o .args .from) (o .args .to) (o .args .h .entries) in
+    let long : length new ≡ o .args .to - o .args .from = length-slice (o .args .from) (o .args .to) (o .args .h .entries) (omega (arith, o .pre .1)) in
+    let at : c .before .before .before .before .first-sector .result ≡ base (o .args .head) (o .args .b) + 0 = c .before .before .before .before .first-sector .ensures ∙ (let z : base (o .args .head) (o .args .b) ≡ base (o .args .head) (o .args .b) + 0 = omega arith in z) in
+    c .before .before .write-run .ensures
+    ∙ ap (λ (k : ℕ). puts card k new) at
+    ∙ sym (into-puts (o .args .head) card (o .args .b) [] new (o .pre .0 .3) (omega (arith, o .pre .1)))
+
+pub write-new-spec : {M : Type 1} → statement M
+write-new-spec = tie.close (tie.spec first-sector-requires write-run-requires same-length returns)

@@ -1,0 +1,118 @@
+-- `climb::write_own` fills one fresh bucket, or two.
+use borrow.Author.Needs.{needs}
+use mathlib.Core.Path.{_≡_, ap, sym, _∙_, subst}
+use mathlib.Core.List.{List, []}
+use Prim.Native.Nat.{ℕ, _+_, _-_, _/_}
+use native.Mathlib.Omega.{arith}
+use lib.ListN.{length, take}
+use lib.Seq.{slice}
+use borrow.Author.Tests.{lt-ltb, le-ltb}
+use lib.Seq.{take-take}
+use Rattle.climb.proofs.Counting.{take-small, drop-small}
+use Rattle.rules.specs.Rewrite.{into}
+use Rattle.hand.specs.Hand.{held}
+use Rattle.level.specs.Level.{AllSmall}
+use Rattle.climb.specs.Levels.{ownCard, Ready}
+use Rattle.climb.proofs.Rising.{ready-into}
+use Rattle.climb.proofs.write_own.Statement.{statement}
+use Rattle.climb.proofs.write_own.Tie as tie
+
+write-new-requires : tie.Need-write-new-requires
+write-new-requires c κs =
+    let o = c .before .before .before in
+    let rd = o .pre .0 .0 in
+    let hs = o .pre .1 .0 in
+    let t = lt-ltb (length (held (o .args .h))) (o .args .limit) (omega (arith, hs .count)) in
+    let cap = rw t at (o .pre .0 .1) in (
+      (rd .shape, rd .least, omega arith, rd .free (o .args .fresh) (omega arith) (omega arith)),
+      (omega arith, hs .most, omega (arith, c .before .if1 .taken, o .pre .1), hs .long, hs .small),
+    )
+
+halved-requires : tie.Need-halved-requires
+halved-requires c κs = search needs
+
+write-new-requires-2 : tie.Need-write-new-requires-2
+write-new-requires-2 c κs =
+    let o = c .before .before .before .before in
+    let rd = o .pre .0 .0 in
+    let hs = o .pre .1 .0 in
+    let m = rd .shape .lim .m4 in
+    let t = le-ltb (length (held (o .args .h))) (o .args .limit) (omega (arith, hs .count)) in
+    let cap = rw t at (o .pre .0 .1) in
+    let n = o .args .h .count in
+    let es = held (o .args .h) in
+    let cut : c .before .halved .result ≡ length es - length es / 2 = c .before .halved .ensures .0 ∙ ap (λ (k : ℕ). k - k / 2) (hs .count) in
+    let low : slice 0 (c .before .halved .result) (o .args .h .entries) ≡ take (length es - length es / 2) es = sym (take-take (c .before .halved .result) n (o .args .h .entries) (c .before .halved .ensures .1)) ∙ ap (λ (k : ℕ). take k es) cut in (
+      (rd .shape, rd .least, omega arith, rd .free (o .args .fresh) (omega arith) (omega arith)),
+      (
+        omega arith,
+        omega (arith, c .before .halved .ensures .1, hs .most),
+        omega (arith, c .before .halved .ensures .0, o .pre .1),
+        hs .long,
+        subst AllSmall (sym low) (take-small (length es - length es / 2) es (hs .small)),
+      ),
+    )
+
+add-write-new : tie.Need-add-write-new
+add-write-new c = search needs
+
+write-new-requires-3 : tie.Need-write-new-requires-3
+write-new-requires-3 c κs =
+    let o = c .before .before .before .before .before .before .before .before in
+    let rd = o .pre .0 .0 in
+    let hs = o .pre .1 .0 in
+    let m = rd .shape .lim .m4 in
+    let t = le-ltb (length (held (o .args .h))) (o .args .limit) (omega (arith, hs .count)) in
+    let cap = rw t at (o .pre .0 .1) in
+    let first = ready-into (o .args .head) (o .args .card .now) [] (o .args .fresh) (slice 0 (c .before .before .before .before .before .halved .result) (o .args .h .entries)) rd (omega arith) in
+    let w : c .before .before .before .write-new2 .last .0 ≡ into (o .args .head) (o .args .fresh) (slice 0 (c .before .before .before .before .before .halved .result) (o .args .h .entries)) (o .args .card .now) = c .before .before .before .write-new2 .ensures in
+    let now = subst (λ (l : List ℕ). Ready (o .args .head) l [] (o .args .fresh + 1)) (sym w) first in (
+      (now .shape, omega arith, omega arith, now .free (o .args .fresh + 1) (omega arith) (omega arith)),
+      (
+        omega (arith, c .before .before .before .before .before .halved .ensures .1),
+        hs .most,
+        omega (arith, c .before .before .before .before .before .halved .ensures .0, o .pre .1),
+        hs .long,
+        drop-small (c .before .before .before .before .before .halved .result) (held (o .args .h)) (hs .small),
+      ),
+    )
+
+same-length : tie.Need-same-length
+same-length c = search needs
+
+returns : tie.Need-returns
+unfolding ownCard
+returns c =
+    let o = c .before .before .before .before .before .before in
+    let hs = o .pre .1 .0 in
+    let t = lt-ltb (length (held (o .args .h))) (o .args .limit) (omega (arith, hs .count, c .before .before .before .before .if1 .taken)) in
+    rw t (c .before .before .write-new .ensures)
+
+same-length-2 : tie.Need-same-length-2
+same-length-2 c = search needs
+
+returns-2 : tie.Need-returns-2
+unfolding ownCard
+returns-2 c =
+    let o = c .before .before .before .before .before .before .before .before .before .before .before in
+    let hs = o .pre .1 .0 in
+    let t = le-ltb (length (held (o .args .h))) (o .args .limit) (omega (arith, hs .count, c .before .before .before .before .before .before .before .before .before .if1 .left)) in
+    let n = o .args .h .count in
+    let es = held (o .args .h) in
+    let cut : c .before .before .before .before .before .before .before .before .halved .result ≡ length es - length es / 2 = c .before .before .before .before .before .before .before .before .halved .ensures .0 ∙ ap (λ (k : ℕ). k - k / 2) (hs .count) in
+    let low : slice 0 (c .before .before .before .before .before .before .before .before .halved .result) (o .args .h .entries) ≡ take (length es - length es / 2) es = sym (take-take (c .before .before .before .before .before .before .before .before .halved .result) n (o .args .h .entries) (c .before .before .before .before .before .before .before .before .halved .ensures .1)) ∙ ap (λ (k : ℕ). take k es) cut in
+    rw (t, ← low, ← cut, ← c .before .before .before .before .before .before .write-new2 .ensures) (c .before .before .write-new3 .ensures)
+
+pub write-own-spec : {M : Type 1} → statement M
+write-own-spec =
+    tie.close
+    (tie.spec
+    write-new-requires
+    halved-requires
+    write-new-requires-2
+    add-write-new
+    write-new-requires-3
+    same-length
+    returns
+    same-length-2
+    returns-2)
