@@ -120,6 +120,9 @@ below-more f g (b ∷ bs) le a = (omega (arith, a .0), below-more f g bs le (a .
 pub all-read : {h : Head} {card : List ℕ} {b : ℕ} {bs : List ℕ} {fresh : ℕ} → Ready h card (b ∷ bs) fresh → Ready h card bs fresh
 all-read rd = record { shape = rd .shape; reads = rd .reads .1; below = rd .below .1; least = rd .least; free = rd .free; logs = rd .logs }
 
+pub none-left : {h : Head} {card bs : List ℕ} {fresh : ℕ} → Ready h card bs fresh → Ready h card [] fresh
+none-left rd = record { shape = rd .shape; reads = tt; below = tt; least = rd .least; free = rd .free; logs = rd .logs }
+
 -- a fresh bucket is filled, and the next one is the first fresh
 pub ready-into : (h : Head) (card bs : List ℕ) (fresh : ℕ) (es : List Entry) → Ready h card bs fresh → fresh ≤ h .n → Ready h (into h fresh es card) bs (fresh + 1)
 ready-into h card bs fresh es rd most =
