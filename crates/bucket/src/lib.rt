@@ -2,9 +2,7 @@
 ghost use mathlib.Core.Path.{_≡_};
 ghost use Prim.Native.Nat.{_-_, _*_, _≤_};
 ghost use lib.ListN.{length};
-ghost use Rattle.laws.proofs.Heads.{Lim};
-ghost use Rattle.rules.specs.Layout.{sizeOf};
-ghost use Rattle.scan.specs.Scan.{sectors, scanIn, wayOf, search, searchLog};
+ghost use Rattle.scan.specs.Scan.{sectors, scanIn, search, searchLog};
 ghost use Rattle.scan.specs.Look.{partOf, logOf, searchAt};
 ghost use Rattle.bucket.specs.Quests.{fits, takes, bucketQuest, logQuest};
 ghost use Rattle.bucket.specs.Shapes.{Shape};

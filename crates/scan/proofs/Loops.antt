@@ -144,25 +144,26 @@ module _ (n m i : ℕ) (b : List ℕ) (s : Sector) (h : i < m) (d : s ≡ decode
   pub later-ends : (x t : ℕ) (w : Bool) → later x t (sectors n b i (m - i)) ≡ w → OneOf (0 ∷ 2 ∷ []) (tagOf the-type s) → false ≡ w
   later-ends x t w inv p = later-other x t s (sectors n b (i + 1) (m - (i + 1))) p ∙ (rw (sectors-step n m i b h, ← d) at inv)
 
--- one bucket of the walk, as its loop has the numbers
-module _ (h : Head) (card : List ℕ) (x t r b k : ℕ) (w : Trip) (lt : r < h .n) (inv : walkScan h card x t (h .n - r) r b k ≡ w) where
-  pub walk-turn : onward (searchAt h card x t b k) (r + 1) (walkScan h card x t (h .n - (r + 1)) (r + 1)) ≡ w
+-- one bucket of the walk, as its loop has the numbers; s is what its search said
+module _ (h : Head) (card : List ℕ) (x t r b k : ℕ) (s : Way) (w : Trip) (lt : r < h .n) (said : s ≡ searchAt h card x t b k)
+    (inv : walkScan h card x t (h .n - r) r b k ≡ w) where
+  walk-turn : onward s (r + 1) (walkScan h card x t (h .n - (r + 1)) (r + 1)) ≡ w
   unfolding walkScan
-  walk-turn = let more : h .n - r ≡ suc (h .n - (r + 1)) = omega arith in rw more at inv
+  walk-turn = let more : h .n - r ≡ suc (h .n - (r + 1)) = omega arith in rw said (rw more at inv)
 
-  pub walk-down : (e : Entry) → searchAt h card x t b k ≡ Down e → walkScan h card x t (h .n - (r + 1)) (r + 1) (e .value) (e .key) ≡ w
+  pub walk-down : (e : Entry) → s ≡ Down e → walkScan h card x t (h .n - (r + 1)) (r + 1) (e .value) (e .key) ≡ w
   unfolding onward
   walk-down e q = rw q at walk-turn
 
-  pub walk-lost : searchAt h card x t b k ≡ Lost → trip 0 Damage ≡ w
+  pub walk-lost : s ≡ Lost → trip 0 Damage ≡ w
   unfolding onward
   walk-lost q = rw q at walk-turn
 
-  pub walk-absent : searchAt h card x t b k ≡ Absent → trip (r + 1) Nothing ≡ w
+  pub walk-absent : s ≡ Absent → trip (r + 1) Nothing ≡ w
   unfolding onward
   walk-absent q = rw q at walk-turn
 
-  pub walk-copy : (e : Entry) → searchAt h card x t b k ≡ Copy e → trip (r + 1) (Hit e) ≡ w
+  pub walk-copy : (e : Entry) → s ≡ Copy e → trip (r + 1) (Hit e) ≡ w
   unfolding onward
   walk-copy e q = rw q at walk-turn
 

@@ -186,8 +186,8 @@ at-sure h card x t (suc b) k =
     search-sure (h .n) k x t (sectors (h .n) card (base h (suc b)) (h .m)) (sectors-fine (h .n) card (base h (suc b)) (h .m))
 
 -- an index entry that is followed names a bucket of the card
-pub down-inside : (h : Head) (card : List ℕ) (x t b k : ℕ) (e : Entry) → searchAt h card x t b k ≡ Down e → Inside (h .n) e
-down-inside h card x t b k e q = subst (WaySure (Inside (h .n))) q (at-sure h card x t b k)
+pub down-inside : (h : Head) (card : List ℕ) (x t b k : ℕ) (s : Way) (e : Entry) → s ≡ searchAt h card x t b k → s ≡ Down e → Inside (h .n) e
+down-inside h card x t b k s e said is = let q = sym said ∙ is in subst (WaySure (Inside (h .n))) q (at-sure h card x t b k)
 
 -- and so does the root entry
 pub root-found : (n : ℕ) (card : List ℕ) (t i c : ℕ) (e : Entry) → searchLog t (sectors n card i c) ≡ Hit e → Inside n e

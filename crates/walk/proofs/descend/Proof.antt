@@ -1,0 +1,109 @@
+use Prim.Native.Nat.{_≤_, _-_}
+use mathlib.Core.Path.{_≡_}
+use native.Mathlib.Nat.{sub-zero}
+use native.Mathlib.Omega.{arith}
+use denote.Ref.{now}
+use Rattle.scan.specs.Look.{walkScan}
+use Rattle.scan.proofs.Loops.{walk-down, walk-lost, walk-absent, walk-copy, walk-out}
+use Rattle.scan.proofs.Parts.{down-inside}
+use borrow.Author.Needs.{needs}
+use Rattle.walk.proofs.descend.Statement.{statement}
+use Rattle.walk.proofs.descend.Tie as tie
+
+abbrev Inv-loop : tie.InvT-loop
+Inv-loop card head root key stamp n b₀ header₀ reads₀ b header reads =
+    (reads ≤ head .n) × (1 ≤ b) × (b ≤ head .n) × (walkScan head card key stamp (head .n - reads) reads b header ≡ walkScan head card key stamp (head .n) 0 root 0)
+
+abbrev μ-loop : tie.MeasureT-loop
+μ-loop card head root key stamp n b₀ header₀ reads₀ b header reads = head .n - reads
+
+cast-n : tie.Need-cast-n Inv-loop μ-loop
+cast-n c = search needs
+
+loop-holds : tie.Need-loop-holds Inv-loop μ-loop
+loop-holds c = (search needs, search needs, search needs, rw sub-zero)
+
+lost-requires : tie.Need-lost-requires Inv-loop μ-loop
+lost-requires c κs = search needs
+
+returns : tie.Need-returns Inv-loop μ-loop
+returns c =
+    let turn = c .before .before in
+    let a = turn .before .before .before .args in
+    rw (c .lost .ensures) (walk-out (a .head) (now (a .card)) (a .key) (a .stamp) (turn .loop .reads) _ _ _ (c .before .if1 .taken) (turn .loop .inv .3))
+
+search-requires : tie.Need-search-requires Inv-loop μ-loop
+search-requires c κs = search needs
+
+add-reads : tie.Need-add-reads Inv-loop μ-loop
+add-reads c = search needs
+
+enum-told : tie.Need-enum-told Inv-loop μ-loop
+enum-told c = search needs
+
+lost-requires-2 : tie.Need-lost-requires-2 Inv-loop μ-loop
+lost-requires-2 c κs = search needs
+
+returns-2 : tie.Need-returns-2 Inv-loop μ-loop
+returns-2 c =
+    let found = c .before .before .before in
+    let turn = found .before .before in
+    let a = turn .before .before .before .args in
+    rw (c .lost2 .ensures) (walk-lost (a .head) (now (a .card)) (a .key) (a .stamp) (turn .loop .reads) _ _ _ _ (omega arith) (found .search .ensures) (turn .loop .inv .3) (c .before .enum-told .given .1))
+
+enum-known-way : tie.Need-enum-known-way Inv-loop μ-loop
+enum-known-way c = search needs
+
+loop-less : tie.Need-loop-less Inv-loop μ-loop
+loop-less c = search needs
+
+loop-again : tie.Need-loop-again Inv-loop μ-loop
+loop-again c =
+    let found = c .before .before .before in
+    let turn = found .before .before in
+    let a = turn .before .before .before .args in
+    let inside = down-inside (a .head) (now (a .card)) (a .key) (a .stamp) (turn .loop .b) (turn .loop .header) _ _ (found .search .ensures) (c .before .way .given .1) in
+    (search needs, inside .0, inside .1, walk-down (a .head) (now (a .card)) (a .key) (a .stamp) (turn .loop .reads) _ _ _ _ (omega arith) (found .search .ensures) (turn .loop .inv .3) _ (c .before .way .given .1))
+
+enum-told-2 : tie.Need-enum-told-2 Inv-loop μ-loop
+enum-told-2 c = search needs
+
+returns-3 : tie.Need-returns-3 Inv-loop μ-loop
+returns-3 c =
+    let found = c .before .before in
+    let turn = found .before .before in
+    let a = turn .before .before .before .args in
+    walk-absent (a .head) (now (a .card)) (a .key) (a .stamp) (turn .loop .reads) _ _ _ _ (omega arith) (found .search .ensures) (turn .loop .inv .3) (c .enum-told2 .given .1)
+
+enum-known-way-2 : tie.Need-enum-known-way-2 Inv-loop μ-loop
+enum-known-way-2 c = search needs
+
+returns-4 : tie.Need-returns-4 Inv-loop μ-loop
+returns-4 c =
+    let found = c .before .before .before in
+    let turn = found .before .before in
+    let a = turn .before .before .before .args in
+    walk-copy (a .head) (now (a .card)) (a .key) (a .stamp) (turn .loop .reads) _ _ _ _ (omega arith) (found .search .ensures) (turn .loop .inv .3) _ (c .before .way2 .given .1)
+
+pub descend-spec : {M : Type 1} → statement M
+descend-spec =
+    tie.close
+    (tie.spec
+    Inv-loop
+    μ-loop
+    cast-n
+    loop-holds
+    lost-requires
+    returns
+    search-requires
+    add-reads
+    enum-told
+    lost-requires-2
+    returns-2
+    enum-known-way
+    loop-less
+    loop-again
+    enum-told-2
+    returns-3
+    enum-known-way-2
+    returns-4)

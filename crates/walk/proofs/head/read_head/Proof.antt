@@ -1,0 +1,34 @@
+use native.Mathlib.Omega.{arith}
+use lib.ListN.{length-take, length-drop}
+use Rattle.rules.specs.Layout.{headOf}
+use Rattle.rules.specs.Sector.{sectorAt}
+use Rattle.walk.specs.Heads.{layoutOf}
+use Rattle.walk.proofs.Sizes.{short-none}
+use borrow.Author.Needs.{needs}
+use Rattle.walk.proofs.head.read_head.Statement.{statement}
+use Rattle.walk.proofs.head.read_head.Tie as tie
+
+returns : tie.Need-returns
+unfolding layoutOf
+returns c = rw (short-none _ (c .if1 .taken))
+
+sub-head-in : tie.Need-sub-head-in
+sub-head-in c = search needs
+
+part-head-in-start : tie.Need-part-head-in-start
+part-head-in-start c = search needs
+
+part-head-in-end : tie.Need-part-head-in-end
+part-head-in-end c = search needs
+
+head-in-requires : tie.Need-head-in-requires
+head-in-requires c κs = simp (length-take, length-drop) (omega arith)
+
+returns-2 : tie.Need-returns-2
+unfolding headOf sectorAt
+returns-2 c = c .head-in .ensures
+
+pub read-head-spec : {M : Type 1} → statement M
+read-head-spec =
+    tie.close
+    (tie.spec returns sub-head-in part-head-in-start part-head-in-end head-in-requires returns-2)

@@ -1,0 +1,65 @@
+use mathlib.Core.Path.{sym, _∙_}
+use denote.Ref.{now}
+use Rattle.bucket.proofs.Room.{shape-of}
+use Rattle.walk.proofs.Walks.{broken-none, sound-some, look-broken, look-zero, look-told}
+use borrow.Author.Needs.{needs}
+use Rattle.walk.proofs.look.Statement.{statement}
+use Rattle.walk.proofs.look.Tie as tie
+
+read-head-requires : tie.Need-read-head-requires
+read-head-requires c κs = search needs
+
+enum-known-layout : tie.Need-enum-known-layout
+enum-known-layout c = search needs
+
+enum-told : tie.Need-enum-told
+enum-told c = search needs
+
+refusal-requires : tie.Need-refusal-requires
+refusal-requires c κs = search needs
+
+returns : tie.Need-returns
+returns c =
+    let read = c .before .before .before in
+    c .refusal .ensures ∙ look-broken (now (read .before .before .args .card)) _ _ (broken-none _ (sym (read .read-head .ensures) ∙ c .before .enum-told .given .1))
+
+refusal-requires-2 : tie.Need-refusal-requires-2
+refusal-requires-2 c κs = search needs
+
+returns-2 : tie.Need-returns-2
+returns-2 c =
+    let sound = c .before .before .before in
+    let read = sound .before .before in
+    let head = sound-some _ _ (sym (read .read-head .ensures) ∙ sound .layout .given .1) in
+    c .refusal2 .ensures ∙ look-zero (now (read .before .before .args .card)) _ _ _ head (c .before .if1 .taken)
+
+walk-requires : tie.Need-walk-requires
+walk-requires c κs =
+    let sound = c .before .before in
+    let read = sound .before .before in
+    shape-of _ _ (sound-some _ _ (sym (read .read-head .ensures) ∙ sound .layout .given .1))
+
+tell-requires : tie.Need-tell-requires
+tell-requires c κs = search needs
+
+returns-3 : tie.Need-returns-3
+returns-3 c =
+    let sound = c .before .before .before .before in
+    let read = sound .before .before in
+    let head = sound-some _ _ (sym (read .read-head .ensures) ∙ sound .layout .given .1) in
+    c .tell .ensures ∙ look-told (now (read .before .before .args .card)) _ _ _ head (c .before .walk .result) (c .before .before .if1 .left) (c .before .walk .ensures)
+
+pub look-spec : {M : Type 1} → statement M
+look-spec =
+    tie.close
+    (tie.spec
+    read-head-requires
+    enum-known-layout
+    enum-told
+    refusal-requires
+    returns
+    refusal-requires-2
+    returns-2
+    walk-requires
+    tell-requires
+    returns-3)

@@ -1,0 +1,49 @@
+use borrow.Author.Tests.{eq-eqb, ne-eqb}
+use Rattle.rules.specs.Answers.{sheet}
+use Rattle.rules.specs.Sector.{isPost}
+use Rattle.rules.specs.Walk.{standing}
+use Rattle.scan.specs.Look.{told}
+use borrow.Author.Needs.{needs}
+use Rattle.walk.proofs.tell.Statement.{statement}
+use Rattle.walk.proofs.tell.Tie as tie
+
+enum-told : tie.Need-enum-told
+enum-told c = search needs
+
+refusal-requires : tie.Need-refusal-requires
+refusal-requires c κs = search needs
+
+enum-told-2 : tie.Need-enum-told-2
+enum-told-2 c = search needs
+
+enum-known-found : tie.Need-enum-known-found
+enum-known-found c = search needs
+
+returns : tie.Need-returns
+unfolding told sheet standing isPost
+returns c = rw (c .before .before .before .found .given .1, eq-eqb _ _ (c .if1 .taken))
+
+returns-2 : tie.Need-returns-2
+unfolding told
+returns-2 c = rw (c .before .enum-told .given .1) (c .refusal .ensures)
+
+returns-3 : tie.Need-returns-3
+unfolding told sheet
+returns-3 c = rw (c .enum-told2 .given .1)
+
+returns-4 : tie.Need-returns-4
+unfolding told sheet standing isPost
+returns-4 c = rw (c .before .before .before .found .given .1, ne-eqb _ _ (c .if1 .left))
+
+pub tell-spec : {M : Type 1} → statement M
+tell-spec =
+    tie.close
+    (tie.spec
+    enum-told
+    refusal-requires
+    enum-told-2
+    enum-known-found
+    returns
+    returns-2
+    returns-3
+    returns-4)
