@@ -1,0 +1,3 @@
+pub mod Since
+pub mod Reading
+pub mod Truth
