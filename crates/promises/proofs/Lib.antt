@@ -1,3 +1,4 @@
 pub mod Since
 pub mod Reading
 pub mod Truth
+pub mod Alike
