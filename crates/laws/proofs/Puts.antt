@@ -191,7 +191,7 @@ each-both P Q (i ∷ is) a b = ((a .0, b .0), each-both P Q is (a .1) (b .1))
 fine-says : (n : ℕ) (d : Entry) → Fine n d → zeros (encode d) ≡ false
 fine-says n d f = held-zeros n (encode d) d (decode-encode n d (f .0) (f .1))
 
-root-says : (s b : ℕ) → zeros (encode (rootEntry s b)) ≡ false
+pub root-says : (s b : ℕ) → zeros (encode (rootEntry s b)) ≡ false
 unfolding zeros encode
 root-says s b = refl
 

@@ -45,7 +45,7 @@ same-card c (e ∷ es) d b p q =
     same-card (p .0) es d b (p .3) (subst (λ z. Since z es b) new (q .3))
 
 -- format makes the same card of every blank one, with the same numbers
-zero-eq : (xs ys : List ℕ) → zeros xs ≡ true → zeros ys ≡ true → length xs ≡ length ys → xs ≡ ys
+pub zero-eq : (xs ys : List ℕ) → zeros xs ≡ true → zeros ys ≡ true → length xs ≡ length ys → xs ≡ ys
 zero-eq xs ys a b l = ext-getD 0 xs ys l (λ i lt. zeros-get xs i a ∙ sym (zeros-get ys i b))
 
 same-format : (h : Head) (c d : List ℕ) → Formatted h c → Formatted h d → c ≡ d

@@ -90,7 +90,7 @@ module _ (h : Head) (card : List ℕ) (g : ℕ → ℕ → Option Entry) (begin 
       (a .0, a .1)
 
   -- a write whose stamp is above every one
-  keeps-write : 1 ≤ e .key → s < e .stamp
+  pub keeps-write : 1 ≤ e .key → s < e .stamp
       → ((new : List ℕ) → planOn h card e (write-walk .0) ≡ accept new → Wrote h card new (upd (ke .now) e) (e .stamp) (ke .state .logs))
       × (freshAfter h card e (write-walk .0) ≤ h .n + 1 → (new : List ℕ) × (planOn h card e (write-walk .0) ≡ accept new))
   keeps-write key above =
