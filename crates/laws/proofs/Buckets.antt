@@ -39,11 +39,6 @@ pub sound-every : (x : Entry) (es : List Entry) → soundBucket (x ∷ es) ≡ s
 unfolding soundBucket
 sound-every x es eq = guard-true (every (joins x) (x ∷ es)) (x ∷ es) (x ∷ es) eq .0
 
-pub sound-snoc : (x : Entry) (es : List Entry) (e : Entry) → soundBucket (x ∷ es) ≡ some (x ∷ es) → joins x e ≡ true
-    → soundBucket (x ∷ (es ++ (e ∷ []))) ≡ some (x ∷ (es ++ (e ∷ [])))
-unfolding soundBucket
-sound-snoc x es e s j = rw (every-snoc (joins x) (x ∷ es) e (sound-every x es s) j)
-
 -- the sectors of a bucket lie in the card, and apart from those of another
 pub bucket-in : (m n b : ℕ) → 1 ≤ b → b ≤ n → m * (b - 1) + m ≤ n * m
 bucket-in m n b lo hi =

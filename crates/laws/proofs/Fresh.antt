@@ -56,15 +56,6 @@ freshAfter h card e p =
     let r = climb h (e .stamp) p (record { hand = e ∷ []; fresh = topUsed h card (h .n) + 1; card = card }) in
     (rooted h (e .stamp) (r .hand) r) .fresh
 
-pub fresh-after : (h : Head) (card : List ℕ) (e : Entry) (p : List Visit) → topUsed h card (h .n) + 1 ≤ freshAfter h card e p
-unfolding freshAfter
-fresh-after h card e p =
-    let r0 : Rise = record { hand = e ∷ []; fresh = topUsed h card (h .n) + 1; card = card } in
-    let up = climb-mono h (e .stamp) p r0 in
-    let r = climb h (e .stamp) p r0 in
-    let top = rooted-fresh h (e .stamp) (r .hand) r in
-    omega arith
-
 -- an index entry in hand leads to bucket f or a later one
 abbrev pub New : ℕ → Entry → Type 0
 New f d = isIndex d ≡ true → f ≤ d .value

@@ -115,10 +115,6 @@ pub all-map : (P Q : Entry → Type 0) → ((e : Entry) → P e → Q e) → (es
 all-map P Q f [] a = tt
 all-map P Q f (e ∷ es) a = (f e (a .0), all-map P Q f es (a .1))
 
-pub all-any : (P : Entry → Type 0) → ((e : Entry) → P e) → (es : List Entry) → All P es
-all-any P f [] = tt
-all-any P f (e ∷ es) = (f e, all-any P f es)
-
 pub all-append : (P : Entry → Type 0) (xs ys : List Entry) → All P xs → All P ys → All P (xs ++ ys)
 all-append P [] ys a b = b
 all-append P (x ∷ xs) ys a b = (a .0, all-append P xs ys (a .1) b)

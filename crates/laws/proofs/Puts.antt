@@ -2,7 +2,6 @@
 use mathlib.Core.Path.{_∙_, _≡_, ap, refl, subst, sym}
 use mathlib.Core.Logic.{_⊎_, inl, inr, ⊎-elim}
 use mathlib.Core.Bool.{false, true}
-use mathlib.Core.Option.{none, some}
 use Prim.Native.Nat.{_*_, _+_, _-_, _/_, _<_, _≤_, suc, zero, ℕ}
 use native.Mathlib.Omega.{arith}
 use mathlib.Core.List.{List, [], _++_, _∷_}
@@ -11,25 +10,22 @@ use lib.Dec.{leb, ltb}
 use borrow.Author.Tests.{le-leb}
 use Rattle.rules.specs.declared.Entry.{Entry}
 use Rattle.rules.specs.declared.Head.{Head}
-use Rattle.rules.specs.declared.Sector.the-variants.{Blank, Held}
-use Rattle.rules.specs.Bucket.{also, blanks, blanksOf, bucket, logBlanks, run}
+use Rattle.rules.specs.Bucket.{also, blanks, blanksOf, logBlanks}
 use Rattle.rules.specs.Layout.{base, sizeOf}
 use Rattle.rules.specs.Plain.{if, zeros}
 use Rattle.rules.specs.Rewrite.{Rise, fill, into, kept, keyOf, limitOf, oneBucket, pair, renew, twoBuckets}
-use Rattle.rules.specs.Sector.{decode, encode, legal, put, rootEntry, sectorAt}
+use Rattle.rules.specs.Sector.{encode, legal, put, rootEntry, sectorAt}
 use Rattle.rules.specs.Walk.{Visit}
 use Rattle.rules.specs.Write.{accept, climb, finish, logFull, logged, place, placeIf, planOn, rooted, topUsed}
-use Rattle.laws.proofs.Tools.{eq-or-ne, none-some, true-and, true-false}
-use Rattle.laws.proofs.Lists.{All, all-append, all-map, all-left, all-right}
+use Rattle.laws.proofs.Tools.{eq-or-ne, true-and, true-false}
+use Rattle.laws.proofs.Lists.{All, all-append, all-left, all-right}
 use Rattle.laws.proofs.Sectors.{length-put, sector-put-other, sector-put-same}
 use Rattle.laws.proofs.Codec.{Fits, decode-encode, held-zeros, length-encode}
-use Rattle.laws.proofs.Run.{onto-inv}
-use Rattle.laws.proofs.Buckets.{bucket-in, bucket-raw}
+use Rattle.laws.proofs.Buckets.{bucket-in}
 use Rattle.laws.proofs.Blocks.{Each, blanks-each, each-map}
-use Rattle.laws.proofs.Bytes.{Bytes, Fine, bytes-encode, bytes-put}
+use Rattle.laws.proofs.Bytes.{Fine}
 use Rattle.laws.proofs.Fresh.{climb-mono, placeIf-fresh, rooted-fresh}
 use Rattle.laws.proofs.Halves.{kept-all}
-use Rattle.laws.proofs.Into.{Stays}
 use Rattle.laws.proofs.Paths.{Along}
 use Rattle.laws.proofs.Plans.{checked-inv}
 
@@ -38,28 +34,6 @@ pub pair-fine : (n s b k : ℕ) (es : List Entry) → keyOf es ≡ k → k < 429
 unfolding pair legal
 pair-fine n s b k es ke kl sl lo hi nn =
     (record { kind = omega arith; key = omega arith; stamp = sl; value = omega arith }, true-and (le-leb 1 b lo) (le-leb b n hi))
-
--- an entry of a bucket stands in a sector of the bucket area
-abbrev pub Stands : ℕ → List ℕ → ℕ → ℕ → Entry → Type 0
-Stands n card lo hi d = (j : ℕ) × (lo ≤ j) × (j < hi) × (decode n (sectorAt card j) ≡ Held d)
-
-run-stands : (n : ℕ) (card : List ℕ) (i c : ℕ) (es : List Entry) → run n card i c ≡ some es → All (Stands n card i (i + c)) es
-unfolding run
-run-stands n card i zero [] q = tt
-run-stands n card i zero (e ∷ es) q = absurd (none-some (let z : none ≡ some e = cc in z))
-run-stands n card i (suc c) es q =
-    ⊎-elim
-    (λ (v : (decode n (sectorAt card i) ≡ Blank) × (es ≡ []) × (run n card (suc i) c ≡ some [])). subst (All (Stands n card i (i + suc c))) (sym (v .1)) tt)
-    (λ (v : (x : Entry) × (xs : List Entry) × (decode n (sectorAt card i) ≡ Held x) × (es ≡ x ∷ xs) × (run n card (suc i) c ≡ some xs)).
-    subst (All (Stands n card i (i + suc c))) (sym (v .3)) (
-      (i, omega arith, omega arith, v .2),
-      all-map (Stands n card (suc i) (suc i + c)) (Stands n card i (i + suc c)) (λ d z. let a = z .1 in let b = z .2 in (z .0, omega arith, omega arith, z .3)) (v .1)
-          (run-stands n card (suc i) c (v .1) (v .4)),
-    ))
-    (onto-inv (decode n (sectorAt card i)) (run n card (suc i) c) es q)
-
-pub bucket-stands : (h : Head) (card : List ℕ) (b : ℕ) (es : List Entry) → bucket h card b ≡ some es → All (Stands (h .n) card (base h b) (base h b + h .m)) es
-bucket-stands h card b es q = run-stands (h .n) card (base h b) (h .m) es (bucket-raw h card b es q .1)
 
 -- d is put at sector i: it is blank and lies past the head; what is put into the bucket area is an entry with Q
 pub record Put (h : Head) (Q : Entry → Type 0) (card : List ℕ) (i : ℕ) (d : Entry) : Type 0 where
@@ -129,36 +103,6 @@ puts-sector h Q card (i ∷ is) new size p j =
     (λ (c : Changed h Q card1 new j). inr (record { was = ap zeros (sym other) ∙ c .was; low = c .low; high = c .high; entry = c .entry; here = c .here; area = c .area }))
     ih)
     (eq-or-ne j i)
-
-pub puts-stays : (h : Head) (Q : Entry → Type 0) (card : List ℕ) (is : List ℕ) (new : List ℕ) → sizeOf h ≡ length card → Puts h Q card is new → Stays card new
-puts-stays h Q card is new size p j z =
-    ⊎-elim (λ (s : sectorAt new j ≡ sectorAt card j). s) (λ (c : Changed h Q card new j). absurd (true-false (sym (c .was) ∙ z))) (puts-sector h Q card is new size p j)
-
-pub puts-bytes : (h : Head) (Q : Entry → Type 0) (card : List ℕ) (is : List ℕ) (new : List ℕ) → Bytes card → Puts h Q card is new → Bytes new
-puts-bytes h Q card [] new by p = subst Bytes p by
-puts-bytes h Q card (i ∷ is) new by p = puts-bytes h Q (put card i (encode (p .0))) is new (bytes-put card i (encode (p .0)) by (bytes-encode (p .0) (p .1 .fits))) (p .2)
-
--- no sector is put to twice
-abbrev pub Once : List ℕ → Type 0
-Once [] = Unit {0}
-Once (i ∷ is) = Each (λ k. i ≡ k → ⊥) is × Once is
-
-puts-away : (h : Head) (Q : Entry → Type 0) (card : List ℕ) (is : List ℕ) (new : List ℕ) → sizeOf h ≡ length card → Puts h Q card is new
-    → (j : ℕ) → zeros (sectorAt card j) ≡ false → Each (λ k. j ≡ k → ⊥) is
-puts-away h Q card [] new size p j z = tt
-puts-away h Q card (i ∷ is) new size p j z =
-    let d = p .0 in
-    let ne : j ≡ i → ⊥ = λ ji. true-false (sym (p .1 .blank) ∙ ap (λ k. zeros (sectorAt card k)) (sym ji) ∙ z) in
-    let other = sector-put-other card i j (encode d) (length-encode d) (in-card h card size i (p .1 .high)) ne in
-    (ne, puts-away h Q (put card i (encode d)) is new (put-size h card i d size (p .1 .high)) (p .2) j (ap zeros other ∙ z))
-
-pub puts-once : (h : Head) (Q : Entry → Type 0) (card : List ℕ) (is : List ℕ) (new : List ℕ) → sizeOf h ≡ length card → Puts h Q card is new → Once is
-puts-once h Q card [] new size p = tt
-puts-once h Q card (i ∷ is) new size p =
-    let d = p .0 in
-    let size1 = put-size h card i d size (p .1 .high) in
-    let same = sector-put-same card i (encode d) (length-encode d) (in-card h card size i (p .1 .high)) in
-    (puts-away h Q (put card i (encode d)) is new size1 (p .2) i (ap zeros same ∙ p .1 .says), puts-once h Q (put card i (encode d)) is new size1 (p .2))
 
 -- the blanks of a run of sectors rise
 abbrev Rising : ℕ → List ℕ → Type 0

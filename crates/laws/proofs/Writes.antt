@@ -6,24 +6,23 @@ use mathlib.Core.Bool.{true, false}
 use mathlib.Core.List.{List}
 use mathlib.Core.Logic.{_⊎_, inl, inr, ⊎-elim}
 use mathlib.Core.Option.{some}
-use mathlib.Core.Path.{_∙_, _≡_, ap, refl, sym}
+use mathlib.Core.Path.{_∙_, _≡_, ap, refl}
 use native.Mathlib.Omega.{arith}
 use Rattle.rules.specs.declared.Entry.{Entry}
 use Rattle.rules.specs.declared.Head.{Head}
 use Rattle.rules.specs.Bucket.{bucket}
 use Rattle.rules.specs.Layout.{base, headOf, sizeOf}
-use Rattle.rules.specs.Plain.{zeros}
 use Rattle.rules.specs.Rewrite.{pair}
 use Rattle.rules.specs.Sector.{isData, isIndex, legal, sectorAt, postEntry, strikeEntry, decode}
 use Rattle.rules.specs.Write.{accept, plan, stampOn, stampOf}
 use Rattle.laws.proofs.Buckets.{bucket-within, bucket-raw}
 use Rattle.laws.proofs.Bytes.{Bytes, run-good, Fine, zip-fine}
 use Rattle.laws.proofs.Codec.{Fits, decode-encode}
-use Rattle.laws.proofs.Heads.{head-facts, head-same}
+use Rattle.laws.proofs.Heads.{head-facts}
 use Rattle.laws.proofs.Lists.{All, all-map}
 use Rattle.laws.proofs.Plans.{plan-inv, plan-walk}
 use Rattle.laws.proofs.Paths.{along-map, walk-reads}
-use Rattle.laws.proofs.Puts.{Puts, Changed, Once, puts-sector, puts-stays, puts-size, puts-bytes, puts-once, plan-chain, Chain}
+use Rattle.laws.proofs.Puts.{Puts, Changed, puts-sector, plan-chain, Chain}
 use Rattle.laws.proofs.Tools.{true-and}
 use Rattle.laws.proofs.Stamps.{top-le, bucket-stamps, top-ge, held-stamp}
 
@@ -91,44 +90,6 @@ call-puts h card hq by e a new q =
     ))
     (pw .0) (walk-reads h card 4294967295 (e .key) (pw .0) (pw .1)))
     new (inv .2)
-
--- no sector is put to twice by a call
-pub call-once : (h : Head) (card : List ℕ) → headOf card ≡ some h → Bytes card → (e : Entry) → Asks e → (new : List ℕ) → plan card e ≡ accept new
-    → (is : List ℕ) × Puts h (λ d. d .stamp ≤ e .stamp) card is new × Once is
-call-once h card hq by e a new q =
-    let c = call-puts h card hq by e a new q in
-    (c .0, c .1, puts-once h (λ d. d .stamp ≤ e .stamp) card (c .0) new (head-facts card h hq .1) (c .1))
-
--- each sector is as before, or was blank and holds one of the entries put
-pub sector-after : (h : Head) (card : List ℕ) → headOf card ≡ some h → Bytes card → (e : Entry) → Asks e → (new : List ℕ) → plan card e ≡ accept new
-    → (j : ℕ) → (sectorAt new j ≡ sectorAt card j) ⊎ Changed h (λ d. d .stamp ≤ e .stamp) card new j
-sector-after h card hq by e a new q j =
-    let c = call-puts h card hq by e a new q in
-    puts-sector h (λ d. d .stamp ≤ e .stamp) card (c .0) new (head-facts card h hq .1) (c .1) j
-
--- no sector that is not blank is changed
-pub stays-after : (h : Head) (card : List ℕ) → headOf card ≡ some h → Bytes card → (e : Entry) → Asks e → (new : List ℕ) → plan card e ≡ accept new
-    → (j : ℕ) → zeros (sectorAt card j) ≡ false → sectorAt new j ≡ sectorAt card j
-stays-after h card hq by e a new q =
-    let c = call-puts h card hq by e a new q in
-    puts-stays h (λ d. d .stamp ≤ e .stamp) card (c .0) new (head-facts card h hq .1) (c .1)
-
--- the head and the length stay
-pub head-after : (h : Head) (card : List ℕ) → headOf card ≡ some h → Bytes card → (e : Entry) → Asks e → (new : List ℕ) → plan card e ≡ accept new
-    → (headOf new ≡ some h) × (length new ≡ length card)
-head-after h card hq by e a new q =
-    let c = call-puts h card hq by e a new q in
-    let size = head-facts card h hq .1 in
-    let Q : Entry → Type 0 = λ d. d .stamp ≤ e .stamp in
-    let len : length new ≡ length card = sym (puts-size h Q card (c .0) new size (c .1)) ∙ size in
-    let s0 : sectorAt new 0 ≡ sectorAt card 0 = ⊎-elim (λ s. s) (λ (x : Changed h Q card new 0). absurd (let z = x .low in omega arith)) (puts-sector h Q card (c .0) new size (c .1) 0) in
-    (head-same card new s0 len ∙ hq, len)
-
--- and the elements are bytes still
-pub bytes-after : (h : Head) (card : List ℕ) → headOf card ≡ some h → Bytes card → (e : Entry) → Asks e → (new : List ℕ) → plan card e ≡ accept new → Bytes new
-bytes-after h card hq by e a new q =
-    let c = call-puts h card hq by e a new q in
-    puts-bytes h (λ d. d .stamp ≤ e .stamp) card (c .0) new by (c .1)
 
 -- entries stamped s or earlier put on a card with no later stamp in its buckets leave none there
 pub chain-top : (h : Head) (s : ℕ) (card new : List ℕ) → sizeOf h ≡ length card → Chain h (λ d. d .stamp ≤ s) card new

@@ -3,7 +3,7 @@ use mathlib.Core.Option.{Option, none, some}
 use mathlib.Core.Bool.{true, false}
 use Prim.Native.Nat.{ℕ, suc, _+_, _*_, _≤_}
 use mathlib.Core.Path.{refl, sym, ap, subst, _∙_, _≡_}
-use mathlib.Core.List.{List, [], _∷_, _++_}
+use mathlib.Core.List.{List, [], _∷_}
 use lib.ListN.{length, length-take, length-drop, replicate, drop}
 use borrow.Author.Tests.{le-leb}
 use native.Mathlib.Omega.{arith}
@@ -85,10 +85,6 @@ written-different card [] new w = tt
 written-different card (i ∷ is) new w =
     let here = sector-put-same card i (w .0) (w .2) (blank-lies card i (w .1)) in
     (written-away (put card i (w .0)) is new (w .4) i (ap zeros here ∙ w .3), written-different (put card i (w .0)) is new (w .4))
-
-written-append : (a is b js c : List ℕ) → WrittenAt a is b → WrittenAt b js c → WrittenAt a (is ++ js) c
-written-append a [] b js c p q = subst (λ z. WrittenAt z js c) (sym p) q
-written-append a (i ∷ is) b js c p q = (p .0, p .1, p .2, p .3, written-append (put a i (p .0)) is b js c (p .4) q)
 
 puts-written : (h : Head) (Q : Entry → Type 0) (card is new : List ℕ) → sizeOf h ≡ length card → Puts h Q card is new → WrittenAt card is new
 puts-written h Q card [] new size p = p

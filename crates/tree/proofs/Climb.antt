@@ -26,7 +26,7 @@ use Rattle.laws.proofs.Heads.{Lim}
 use Rattle.tree.proofs.Tree.{Early, Kids, Reading, Shape, Span, Tree, tree-frame, tree-not, turn-data, turn-index}
 use Rattle.tree.proofs.Kids.{away, away-tree, kids-one, kids-two, same-upper}
 use Rattle.tree.proofs.Content.{content-fresh}
-use Rattle.tree.proofs.Place.{Closed, One, Outcome, Two, Upto}
+use Rattle.tree.proofs.Place.{Closed, One, Outcome, Two}
 use Rattle.tree.proofs.Placed.{Before, late-nil, place-level}
 use Rattle.tree.proofs.AsOf.{Late}
 use Rattle.tree.proofs.Ready.{Ready}
@@ -87,7 +87,7 @@ Climbs h card g e f0 t k b lo hi f =
     × ((climb h (e .stamp) p (start card e f0)) .fresh ≤ h .n + 1 → Outcome h card g (upd g e) k b lo hi (e .stamp) (climb h (e .stamp) p (start card e f0)))
 
 module _ (h : Head) (lim : Lim h) (card : List ℕ) (g : ℕ → Option Entry) (t : ℕ) (early : Early t (bucket h card))
-    (e : Entry) (fine : Fine (h .n) e) (isd : (isIndex e ≡ false) × (isData e ≡ true)) (f0 : ℕ) (ready : Ready h card f0) (f1 : 1 ≤ f0) (upto : Upto (e .stamp) (bucket h card)) where
+    (e : Entry) (fine : Fine (h .n) e) (isd : (isIndex e ≡ false) × (isData e ≡ true)) (f0 : ℕ) (ready : Ready h card f0) (f1 : 1 ≤ f0) where
   leaf-level : (b lo hi f : ℕ) (tr : Tree (bucket h card) g zero b lo hi) → lo < hi → hi ≤ 4294967296 → lo ≤ e .key → e .key < hi → Climbs h card g e f0 t zero b lo hi (suc f)
   unfolding climb placeIf every
   leaf-level b lo hi f tr lt h32 le lh = (
@@ -100,9 +100,6 @@ module _ (h : Head) (lim : Lim h) (card : List ℕ) (g : ℕ → Option Entry) (
           front1 = λ j lt. refl;
           late = true-and (le-leb (e .stamp) (e .stamp) (omega arith)) refl;
           added = inl (e, copy-snoc-same (e .key) (tr .0) e refl, refl, isd .1);
-          stays1 = λ j z. refl;
-          upto1 = upto;
-          stamps = (omega arith, tt);
           ready1 = ready;
           fresh1 = f1;
           here = tr .1;
@@ -150,9 +147,7 @@ module _ (h : Head) (lim : Lim h) (card : List ℕ) (g : ℕ → Option Entry) (
           ready = c .ready;
           front = c .front;
           grows = c .grows;
-          upto = c .upto;
           mark = c .mark;
-          stays = c .stays;
           spot = c .spot;
           height = c .height;
           low = c .low;
@@ -215,9 +210,6 @@ module _ (h : Head) (lim : Lim h) (card : List ℕ) (g : ℕ → Option Entry) (
           front1 = o .opened .front;
           late = subst (Late (e .stamp)) (sym hand) (late-pair p [] (pr .3) (late-nil (e .stamp)));
           added = inr (o .opened .mark);
-          stays1 = o .opened .stays;
-          upto1 = o .opened .upto;
-          stamps = subst (All (λ z. z .stamp ≤ e .stamp)) (sym hand) (let z = pr .3 in (omega arith, tt));
           ready1 = o .opened .ready;
           fresh1 = lf;
           here = tr .1;
@@ -250,9 +242,6 @@ module _ (h : Head) (lim : Lim h) (card : List ℕ) (g : ℕ → Option Entry) (
           front1 = o .opened .front;
           late = subst (Late (e .stamp)) (sym hand) (late-pair p (q ∷ []) (pr .3) (late-pair q [] (qr .3) (late-nil (e .stamp))));
           added = inr (o .opened .mark);
-          stays1 = o .opened .stays;
-          upto1 = o .opened .upto;
-          stamps = subst (All (λ z. z .stamp ≤ e .stamp)) (sym hand) (let z = pr .3 in let y = qr .3 in (omega arith, (omega arith, tt)));
           ready1 = o .opened .ready;
           fresh1 = lf;
           here = tr .1;

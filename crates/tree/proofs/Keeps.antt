@@ -96,10 +96,8 @@ module _ (h : Head) (card : List ℕ) (g : ℕ → ℕ → Option Entry) (begin 
   keeps-write key above =
       let st = ke .state in
       let top = ke .top in
-      let hf = head-facts card h (st .head) in
       let w = write-walk in
-      let step = write-step h card (ke .now) (ke .height) st e (asks-fine (h .n) e asks key (omega arith)) (asks-kind e asks)
-      (bucket-stamps h card (hf .1) (e .stamp) (omega arith)) in
+      let step = write-step h card (ke .now) (ke .height) st e (asks-fine (h .n) e asks key (omega arith)) (asks-kind e asks) in
       let same : step .0 ≡ w .0 = some-inj (sym (step .1) ∙ sym (state-walk h card (ke .now) (ke .height) st (e .key)) ∙ w .1) in
       subst (λ p. ((new : List ℕ) → planOn h card e p ≡ accept new → Wrote h card new (upd (ke .now) e) (e .stamp) (ke .state .logs))
       × (freshAfter h card e p ≤ h .n + 1 → (new : List ℕ) × (planOn h card e p ≡ accept new))) same (step .2, step .3)

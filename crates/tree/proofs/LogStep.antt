@@ -11,15 +11,14 @@ use Rattle.rules.specs.declared.Entry.{Entry}
 use Rattle.rules.specs.declared.Head.{Head}
 use Rattle.rules.specs.Bucket.{blanks, bucket, log, logBlanks, run, soundBucket, soundLog}
 use Rattle.rules.specs.Layout.{base, sizeOf}
-use Rattle.rules.specs.Plain.{andThen, every, zeros}
+use Rattle.rules.specs.Plain.{andThen, every}
 use Rattle.rules.specs.Rewrite.{fill}
 use Rattle.rules.specs.Sector.{isRoot, sectorAt}
-use Rattle.laws.proofs.Tools.{guard-true, none-some, then-inv, true-false}
+use Rattle.laws.proofs.Tools.{guard-true, none-some, then-inv}
 use Rattle.laws.proofs.Run.{run-agree}
 use Rattle.laws.proofs.Buckets.{every-snoc, raw}
 use Rattle.laws.proofs.Blocks.{Each, Good, Lies, blanks-each, fill-other, fill-run, length-fill}
 use Rattle.laws.proofs.Bytes.{Fine, bytes-fill}
-use Rattle.laws.proofs.Into.{Stays}
 use Rattle.tree.proofs.Ready.{Ready}
 
 -- what is read of the log, by its sectors
@@ -44,7 +43,6 @@ soundLog-snoc (x ∷ lg) r a b = rw (every-snoc isRoot (x ∷ lg) r a b)
 
 pub record Logged (h : Head) (card card' : List ℕ) (f : ℕ) (lg : List Entry) : Type 0 where
   pub ready : Ready h card' f
-  pub stays : Stays card card'
   pub head : sectorAt card' 0 ≡ sectorAt card 0
   pub logged : log h card' ≡ some lg
   pub same : (c : ℕ) → bucket h card' c ≡ bucket h card c
@@ -71,8 +69,6 @@ log-step h card f lg r rdy q room fine root =
         blank = λ c a b. rawsame c ∙ rdy .blank c a b;
         whole = λ c a. let w = rdy .whole c a in (w .0, rawsame c ∙ w .1);
       };
-      stays = λ j z. fill-other card is (r ∷ []) j lies
-          (blanks-each (λ i. j ≡ i → ⊥) card 1 (h .n) (λ i p w y e. true-false (sym y ∙ ap (λ k. zeros (sectorAt card k)) (sym e) ∙ z)));
       head = other 0 (inl (omega arith));
       logged = rw (fill-run (h .n) card 1 (h .n) lg (r ∷ []) good (omega arith) room (inv .0)) (soundLog-snoc lg r (inv .1) root);
       same = λ c. buckets c (rawsame c);

@@ -1,5 +1,5 @@
 -- One level of a write: the hand is placed in a bucket, or the bucket is made anew with it.
-use mathlib.Core.Path.{_∙_, _≡_, ap, refl, subst, sym}
+use mathlib.Core.Path.{_∙_, _≡_, refl, subst, sym}
 use mathlib.Core.Logic.{_⊎_, inl, inr, ⊎-elim}
 use mathlib.Core.Bool.{Bool, false, not, true}
 use mathlib.Core.Option.{Option, some}
@@ -20,7 +20,6 @@ use Rattle.laws.proofs.Lists.{All, all-map, only-all, only-back}
 use Rattle.laws.proofs.Bytes.{Fine}
 use Rattle.laws.proofs.Copies.{copies-says}
 use Rattle.laws.proofs.Halves.{copies-all, kept-all}
-use Rattle.laws.proofs.Into.{Stays}
 use Rattle.tree.proofs.AsOf.{Grows}
 use Rattle.tree.proofs.Tree.{HeadIs, Reading, Shape, Span, Tree}
 use Rattle.tree.proofs.Ready.{Ready}
@@ -58,18 +57,6 @@ pub keyOf-head : (lo : ℕ) (es : List Entry) → HeadIs lo es → keyOf es ≡ 
 unfolding keyOf
 keyOf-head lo [] k = absurd k
 keyOf-head lo (e ∷ es) k = k
-
--- no entry is stamped after s
-abbrev pub Upto : ℕ → Reading → Type 0
-Upto s rd = (c : ℕ) (cs : List Entry) → rd c ≡ some cs → All (λ e. e .stamp ≤ s) cs
-
-pub upto-step : (s : ℕ) (rd rd' : Reading) (b : ℕ) (es : List Entry) → Upto s rd → rd' b ≡ some es → All (λ e. e .stamp ≤ s) es
-    → ((c : ℕ) → (c ≡ b → ⊥) → rd' c ≡ rd c) → Upto s rd'
-upto-step s rd rd' b es up q a others c cs z =
-    ⊎-elim
-    (λ (cb : c ≡ b). let e : es ≡ cs = cc (q, ap rd' cb, z) in subst (All (λ d. d .stamp ≤ s)) e a)
-    (λ (ne : c ≡ b → ⊥). up c cs (sym (others c ne) ∙ z))
-    (eq-or-ne c b)
 
 -- a post or strike stamped s can be read
 abbrev pub Unmarked : ℕ → List Entry → Type 0
@@ -118,9 +105,7 @@ pub record Closed (h : Head) (card card' : List ℕ) (g g' : ℕ → Option Entr
   pub ready : Ready h card' f
   pub front : (j : ℕ) → j < 1 + h .n → sectorAt card' j ≡ sectorAt card j
   pub grows : Grows s (bucket h card) (bucket h card')
-  pub upto : Upto s (bucket h card')
   pub mark : Mark s (bucket h card')
-  pub stays : Stays card card'
   pub spot : ℕ
   pub height : ℕ
   pub low : ℕ
@@ -132,9 +117,7 @@ pub record Closed (h : Head) (card card' : List ℕ) (g g' : ℕ → Option Entr
 
 pub record Open (h : Head) (card card' : List ℕ) (s f : ℕ) : Type 0 where
   pub ready : Ready h card' f
-  pub upto : Upto s (bucket h card')
   pub mark : Mark s (bucket h card')
-  pub stays : Stays card card'
   pub front : (j : ℕ) → j < 1 + h .n → sectorAt card' j ≡ sectorAt card j
   pub same : (c : ℕ) (cs : List Entry) → bucket h card c ≡ some cs → bucket h card' c ≡ some cs
 

@@ -25,14 +25,13 @@ use Rattle.laws.proofs.Bytes.{Fine}
 use Rattle.laws.proofs.Buckets.{bucket-raw, bucket-within}
 use Rattle.laws.proofs.Fresh.{rooted-fresh, climb-mono, New, climb-new, freshAfter}
 use Rattle.laws.proofs.Heads.{Lim, head-facts, head-same}
-use Rattle.laws.proofs.Into.{Stays, stays-trans}
 use Rattle.laws.proofs.Plans.{checked-inv}
 use Rattle.laws.proofs.Used.{used-top}
 use Rattle.laws.proofs.Blanks.{blanks-left}
 use Rattle.tree.proofs.AsOf.{Grows, Late}
 use Rattle.tree.proofs.Tree.{Shape, Tree, tree-fresh}
 use Rattle.tree.proofs.Content.{shape-sound, tree-parts}
-use Rattle.tree.proofs.Place.{Closed, Mark, One, Open, Outcome, Two, Upto, upto-step}
+use Rattle.tree.proofs.Place.{Closed, Mark, One, Open, Outcome, Two}
 use Rattle.tree.proofs.Placed.{late-nil}
 use Rattle.tree.proofs.Climb.{climb-tree, start, upd}
 use Rattle.tree.proofs.LogStep.{log-step, log-raw}
@@ -44,9 +43,7 @@ pub record Wrote (h : Head) (card card' : List ℕ) (g' : ℕ → Option Entry) 
   pub height : ℕ
   pub state : State h card' g' height
   pub grows : Grows s (bucket h card) (bucket h card')
-  pub upto : Upto s (bucket h card')
   pub mark : Mark s (bucket h card')
-  pub stays : Stays card card'
   pub new-log : List Entry
   pub log-grows : (log h card' ≡ some (lg ++ new-log)) × Late s new-log × All (λ e. e .stamp ≤ s) new-log
 
@@ -92,9 +89,7 @@ module _ (h : Head) (card : List ℕ) (g g' : ℕ → Option Entry) (k s : ℕ) 
           tall = (tb .0, tb .1 ++ gr .0, gr .1, tb .3, tb .4);
         };
         grows = c .grows;
-        upto = c .upto;
         mark = c .mark;
-        stays = c .stays;
         new-log = [];
         log-grows = (ls ∙ ap some (sym (append-nil (st .logs))), late-nil s, tt);
       }
@@ -129,8 +124,6 @@ module _ (h : Head) (card : List ℕ) (g g' : ℕ → Option Entry) (k s : ℕ) 
         };
         grows = all-grows h card card' s (λ c cs q. same c cs (op .same c cs q));
         mark = (let m = op .mark in (m .0, m .1, same (m .0) (m .1) (m .2), m .3));
-        stays = stays-trans card card1 card' (op .stays) (lg .stays);
-        upto = λ c cs q. op .upto c cs (sym (lg .same c) ∙ q);
         new-log = rootEntry s b ∷ [];
         log-grows = (lg .logged, late-root s b, (omega arith, tt));
       }
@@ -159,7 +152,7 @@ module _ (h : Head) (card : List ℕ) (g g' : ℕ → Option Entry) (k s : ℕ) 
       let fb = fresh-bucket h card1 (r .fresh) f es (o .opened .ready) rf (omega arith) fn fr
       (pr .2 .0, pr .2 .1, (qr .2 .0, qr .2 .1, tt)) (shape-sound true 0 4294967296 es sh) in
       let card2 = into h f es card1 in
-      let op : Open h card card2 s (f + 1) = record { ready = fb .ready; upto = upto-step s (bucket h card1) (bucket h card2) f es (o .opened .upto) (fb .here) (let a = pr .3 in let b = qr .3 in (omega arith, (omega arith, tt))) (fb .others); mark = (let m = o .opened .mark in (m .0, m .1, fb .same (m .0) (m .1) (m .2), m .3)); stays = stays-trans card card1 card2 (o .opened .stays) (fb .stays); front = λ i lt. fb .front i lt ∙ o .opened .front i lt; same = λ c cs z. fb .same c cs (o .opened .same c cs z) } in
+      let op : Open h card card2 s (f + 1) = record { ready = fb .ready; mark = (let m = o .opened .mark in (m .0, m .1, fb .same (m .0) (m .1) (m .2), m .3)); front = λ i lt. fb .front i lt ∙ o .opened .front i lt; same = λ c cs z. fb .same c cs (o .opened .same c cs z) } in
       let tr : Tree (bucket h card2) g' (suc k) f 0 4294967296 = (
         es,
         fb .here,
@@ -218,12 +211,12 @@ unfolding checked refuseIf
 checked-accept h full r le free = rw (le-ltb (h .n + 1) (r .fresh) le, free)
 
 -- a write: what it leaves if it is accepted, and that it is if the fresh buckets needed remain
-pub write-step : (h : Head) (card : List ℕ) (g : ℕ → Option Entry) (k : ℕ) (st : State h card g k) (e : Entry) → Fine (h .n) e → (isIndex e ≡ false) × (isData e ≡ true) → Upto (e .stamp) (bucket h card)
+pub write-step : (h : Head) (card : List ℕ) (g : ℕ → Option Entry) (k : ℕ) (st : State h card g k) (e : Entry) → Fine (h .n) e → (isIndex e ≡ false) × (isData e ≡ true)
     → (p : List Visit) × (path (bucket h card) 4294967295 (e .key) (h .n) (st .last .value) 0 ≡ some p)
     × ((new : List ℕ) → planOn h card e p ≡ accept new → Wrote h card new (upd g e) (e .stamp) (st .logs))
     × (freshAfter h card e p ≤ h .n + 1 → (new : List ℕ) × (planOn h card e p ≡ accept new))
 unfolding planOn finish freshAfter
-write-step h card g k st e fine isd upto =
+write-step h card g k st e fine isd =
     let hf = head-facts card h (st .head) in
     let tb = st .tall in
     let bn = bucket-within h card (tb .0) (tb .1) (hf .1) (tb .2) in
@@ -232,7 +225,7 @@ write-step h card g k st e fine isd upto =
     let tl = tb .3 in
     let ready = ready-top h card (st .bytes) (hf .1) (st .whole) in
     let early = early-max h card (st .bytes) in
-    let ct = climb-tree h (hf .0) card g 4294967295 early e fine isd f0 ready (omega arith) upto k (st .last .value) 0 4294967296 (h .n) (st .tree)
+    let ct = climb-tree h (hf .0) card g 4294967295 early e fine isd f0 ready (omega arith) k (st .last .value) 0 4294967296 (h .n) (st .tree)
     (omega arith) (omega arith) (omega arith) (fine .0 .key) (omega arith) in
     let r = climb h (e .stamp) (ct .0) (start card e f0) in
     let cf = climb-mono h (e .stamp) (ct .0) (start card e f0) in
