@@ -20,7 +20,7 @@ use Rattle.rules.specs.Write.{accept, climb, finish, logFull, logged, place, pl
 use Rattle.laws.proofs.Tools.{eq-or-ne, true-and, true-false}
 use Rattle.laws.proofs.Lists.{All, all-append, all-left, all-right}
 use Rattle.laws.proofs.Sectors.{length-put, sector-put-other, sector-put-same}
-use Rattle.laws.proofs.Codec.{Fits, decode-encode, held-zeros, length-encode}
+use Rattle.laws.proofs.Codec.{decode-encode, held-zeros, length-encode}
 use Rattle.laws.proofs.Buckets.{bucket-in}
 use Rattle.laws.proofs.Blocks.{Each, blanks-each, each-map}
 use Rattle.laws.proofs.Bytes.{Fine}
@@ -35,12 +35,10 @@ unfolding pair legal
 pair-fine n s b k es ke kl sl lo hi nn =
     (record { kind = omega arith; key = omega arith; stamp = sl; value = omega arith }, true-and (le-leb 1 b lo) (le-leb b n hi))
 
--- d is put at sector i: it is blank and lies past the head; what is put into the bucket area is an entry with Q
+-- d is put at sector i, which is blank; what is put into the bucket area is an entry with Q
 pub record Put (h : Head) (Q : Entry → Type 0) (card : List ℕ) (i : ℕ) (d : Entry) : Type 0 where
   pub blank : zeros (sectorAt card i) ≡ true
-  pub low : 1 ≤ i
   pub high : i < 1 + h .n + h .n * h .m
-  pub fits : Fits d
   pub says : zeros (encode d) ≡ false
   pub area : 1 + h .n ≤ i → Fine (h .n) d × Q d
 
@@ -67,8 +65,6 @@ puts-size h Q card (i ∷ is) new size p = puts-size h Q (put card i (encode (p 
 -- a sector that is not as before was blank, and holds one of the entries
 pub record Changed (h : Head) (Q : Entry → Type 0) (card new : List ℕ) (j : ℕ) : Type 0 where
   pub was : zeros (sectorAt card j) ≡ true
-  pub low : 1 ≤ j
-  pub high : j < 1 + h .n + h .n * h .m
   pub entry : Entry
   pub here : sectorAt new j ≡ encode entry
   pub area : 1 + h .n ≤ j → Fine (h .n) entry × Q entry
@@ -88,8 +84,6 @@ puts-sector h Q card (i ∷ is) new size p j =
     (λ (s : sectorAt new j ≡ sectorAt card1 j).
     inr (record {
       was = ap (λ z. zeros (sectorAt card z)) ji ∙ p .1 .blank;
-      low = subst (λ z. 1 ≤ z) (sym ji) (p .1 .low);
-      high = subst (λ z. z < 1 + h .n + h .n * h .m) (sym ji) (p .1 .high);
       entry = d;
       here = s ∙ here;
       area = subst (λ z. 1 + h .n ≤ z → Fine (h .n) d × Q d) (sym ji) (p .1 .area);
@@ -100,7 +94,7 @@ puts-sector h Q card (i ∷ is) new size p j =
     let other : sectorAt card1 j ≡ sectorAt card j = sector-put-other card i j (encode d) (length-encode d) room ne in
     ⊎-elim
     (λ (s : sectorAt new j ≡ sectorAt card1 j). inl (s ∙ other))
-    (λ (c : Changed h Q card1 new j). inr (record { was = ap zeros (sym other) ∙ c .was; low = c .low; high = c .high; entry = c .entry; here = c .here; area = c .area }))
+    (λ (c : Changed h Q card1 new j). inr (record { was = ap zeros (sym other) ∙ c .was; entry = c .entry; here = c .here; area = c .area }))
     ih)
     (eq-or-ne j i)
 
@@ -126,7 +120,7 @@ blanks-rising card i (suc c) =
 
 -- a sector that may be written
 abbrev Spot : Head → List ℕ → ℕ → Type 0
-Spot h card i = (zeros (sectorAt card i) ≡ true) × (1 ≤ i) × (i < 1 + h .n + h .n * h .m)
+Spot h card i = (zeros (sectorAt card i) ≡ true) × (i < 1 + h .n + h .n * h .m)
 
 each-both : (P Q : ℕ → Type 0) (is : List ℕ) → Each P is → Each Q is → Each (λ i. P i × Q i) is
 each-both P Q [] a b = tt
@@ -138,9 +132,6 @@ fine-says n d f = held-zeros n (encode d) d (decode-encode n d (f .0) (f .1))
 pub root-says : (s b : ℕ) → zeros (encode (rootEntry s b)) ≡ false
 unfolding zeros encode
 root-says s b = refl
-
-root-fits : (s b : ℕ) → s < 4294967296 → b < 4294967296 → Fits (rootEntry s b)
-root-fits s b sl bl = record { kind = omega arith; key = omega arith; stamp = sl; value = bl }
 
 -- entries can be put so that the card becomes new
 abbrev pub Chain : Head → (Entry → Type 0) → List ℕ → List ℕ → Type 0
@@ -162,30 +153,30 @@ fill-chain h Q card size lo is [] r sp a = ([], refl)
 fill-chain h Q card size lo [] (e ∷ es) r sp a = ([], refl)
 fill-chain h Q card size lo (i ∷ is) (e ∷ es) r sp a =
     let card1 = put card i (encode e) in
-    let room = in-card h card size i (sp .0 .2) in
+    let room = in-card h card size i (sp .0 .1) in
     let sp1 : Each (Spot h card1) is = each-map (λ k. Spot h card k × (k ≡ i → ⊥)) (Spot h card1)
-    (λ k z. (ap zeros (sector-put-other card i k (encode e) (length-encode e) room (z .1)) ∙ z .0 .0, z .0 .1, z .0 .2)) is
+    (λ k z. (ap zeros (sector-put-other card i k (encode e) (length-encode e) room (z .1)) ∙ z .0 .0, z .0 .1)) is
     (each-both (Spot h card) (λ k. k ≡ i → ⊥) is (sp .1) (rising-away i (suc i) (omega arith) is (r .1))) in
-    let ih = fill-chain h Q card1 (put-size h card i e size (sp .0 .2)) (suc i) is es (r .1) sp1 (a .1) in
-    (i ∷ ih .0, (e, record { blank = sp .0 .0; low = sp .0 .1; high = sp .0 .2; fits = a .0 .0 .0; says = fine-says (h .n) e (a .0 .0); area = λ z. a .0 }, ih .1))
+    let ih = fill-chain h Q card1 (put-size h card i e size (sp .0 .1)) (suc i) is es (r .1) sp1 (a .1) in
+    (i ∷ ih .0, (e, record { blank = sp .0 .0; high = sp .0 .1; says = fine-says (h .n) e (a .0 .0); area = λ z. a .0 }, ih .1))
 
 pub into-chain : (h : Head) (Q : Entry → Type 0) (card : List ℕ) → sizeOf h ≡ length card → (b : ℕ) → 1 ≤ b → b ≤ h .n → (es : List Entry) → All (λ d. Fine (h .n) d × Q d) es
     → Chain h Q card (into h b es card)
 unfolding into blanksOf base
 into-chain h Q card size b lo hi es a =
     fill-chain h Q card size (base h b) (blanks card (base h b) (h .m)) es (blanks-rising card (base h b) (h .m))
-    (blanks-each (Spot h card) card (base h b) (h .m) (λ j p q z. (z, omega arith, omega (arith, bucket-in (h .m) (h .n) b lo hi)))) a
+    (blanks-each (Spot h card) card (base h b) (h .m) (λ j p q z. (z, omega (arith, bucket-in (h .m) (h .n) b lo hi)))) a
 
-log-one : (h : Head) (Q : Entry → Type 0) (card : List ℕ) (s b : ℕ) → Fits (rootEntry s b) → (is : List ℕ) → Each (λ i. Spot h card i × (i < 1 + h .n)) is → Chain h Q card (fill card is (rootEntry s b ∷ []))
+log-one : (h : Head) (Q : Entry → Type 0) (card : List ℕ) (s b : ℕ) (is : List ℕ) → Each (λ i. Spot h card i × (i < 1 + h .n)) is → Chain h Q card (fill card is (rootEntry s b ∷ []))
 unfolding fill
-log-one h Q card s b f [] a = ([], refl)
-log-one h Q card s b f (i ∷ is) a =
+log-one h Q card s b [] a = ([], refl)
+log-one h Q card s b (i ∷ is) a =
     let lt = a .0 .1 in
-    (i ∷ [], (rootEntry s b, record { blank = a .0 .0 .0; low = a .0 .0 .1; high = a .0 .0 .2; fits = f; says = root-says s b; area = λ z. absurd (omega arith) }, refl))
+    (i ∷ [], (rootEntry s b, record { blank = a .0 .0 .0; high = a .0 .0 .1; says = root-says s b; area = λ z. absurd (omega arith) }, refl))
 
-log-chain : (h : Head) (Q : Entry → Type 0) (card : List ℕ) (s b : ℕ) → Fits (rootEntry s b) → Chain h Q card (fill card (logBlanks h card) (rootEntry s b ∷ []))
+log-chain : (h : Head) (Q : Entry → Type 0) (card : List ℕ) (s b : ℕ) → Chain h Q card (fill card (logBlanks h card) (rootEntry s b ∷ []))
 unfolding logBlanks
-log-chain h Q card s b f = log-one h Q card s b f (blanks card 1 (h .n)) (blanks-each (λ i. Spot h card i × (i < 1 + h .n)) card 1 (h .n) (λ j p q z. ((z, p, omega arith), omega arith)))
+log-chain h Q card s b = log-one h Q card s b (blanks card 1 (h .n)) (blanks-each (λ i. Spot h card i × (i < 1 + h .n)) card 1 (h .n) (λ j p q z. ((z, omega arith), omega arith)))
 
 -- what one call puts
 module _ (h : Head) (n4096 : h .n ≤ 4096) (s : ℕ) (s32 : s < 4294967296) (Q : Entry → Type 0) (qp : (b : ℕ) (ks : List Entry) → Q (pair s b ks)) (card : List ℕ) (size : sizeOf h ≡ length card) where
@@ -255,19 +246,15 @@ module _ (h : Head) (n4096 : h .n ≤ 4096) (s : ℕ) (s32 : s < 4294967296) (Q 
       let pf = placeIf-fresh h s v (b .hand) b in
       placeIf-ok v (b .hand) b (a .0) (climb-ok p r (a .1) o lo (omega arith)) (omega arith) cap
 
-  one-fresh : (ks : List Entry) (r : Rise) → (oneBucket h s ks r) .fresh ≤ h .n + 1 → r .fresh ≤ h .n
-  unfolding oneBucket
-  one-fresh ks r cap = omega arith
-
-  logged-ok : (b : ℕ) (r : Rise) → b < 4294967296 → Chain h Q card (r .card) → Chain h Q card ((logged h s b r) .card)
+  logged-ok : (b : ℕ) (r : Rise) → Chain h Q card (r .card) → Chain h Q card ((logged h s b r) .card)
   unfolding logged
-  logged-ok b r lt o = chain-more h Q card (r .card) (fill (r .card) (logBlanks h (r .card)) (rootEntry s b ∷ [])) o (log-chain h Q (r .card) s b (root-fits s b s32 lt))
+  logged-ok b r o = chain-more h Q card (r .card) (fill (r .card) (logBlanks h (r .card)) (rootEntry s b ∷ [])) o (log-chain h Q (r .card) s b)
 
   pub rooted-ok : (top : List Entry) (r : Rise) → All P top → Ok r → 1 ≤ r .fresh → (rooted h s top r) .fresh ≤ h .n + 1 → Chain h Q card ((rooted h s top r) .card)
   unfolding rooted logged
   rooted-ok [] r a o lo cap = o .0
-  rooted-ok (e ∷ []) r a o lo cap = logged-ok (e .value) r (a .0 .0 .0 .value) (o .0)
-  rooted-ok (e ∷ d ∷ es) r a o lo cap = logged-ok (r .fresh) (oneBucket h s (e ∷ d ∷ es) r) (let z = one-fresh (e ∷ d ∷ es) r cap in omega arith) (one-ok (e ∷ d ∷ es) r a o lo cap .0)
+  rooted-ok (e ∷ []) r a o lo cap = logged-ok (e .value) r (o .0)
+  rooted-ok (e ∷ d ∷ es) r a o lo cap = logged-ok (r .fresh) (oneBucket h s (e ∷ d ∷ es) r) (one-ok (e ∷ d ∷ es) r a o lo cap .0)
 
 -- the whole of an accepted write
 pub plan-chain : (h : Head) → h .n ≤ 4096 → (Q : Entry → Type 0) (e : Entry) → ((b : ℕ) (ks : List Entry) → Q (pair (e .stamp) b ks)) → (card : List ℕ) → sizeOf h ≡ length card
