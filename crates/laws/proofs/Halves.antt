@@ -1,4 +1,4 @@
--- What the entries of a bucket say, for a data and an index bucket alike.
+-- A list in key order: its two halves, and what is kept of it.
 use mathlib.Core.Path.{_∙_, _≡_, ap, refl, sym}
 use mathlib.Core.Logic.{⊎-elim}
 use mathlib.Core.Bool.{Bool, false, not, true}

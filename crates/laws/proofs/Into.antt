@@ -17,7 +17,8 @@ use Rattle.rules.specs.Sector.{sectorAt}
 use Rattle.laws.proofs.Tools.{eq-or-ne, le-or-lt, true-false}
 use Rattle.laws.proofs.Run.{run-agree}
 use Rattle.laws.proofs.Buckets.{apart, bucket-in, raw}
-use Rattle.laws.proofs.Blocks.{Each, Good, Lies, blanks-each, fill-other, fill-run, length-fill}
+use Rattle.laws.proofs.Blocks.{Each, Lies, blanks-each, fill-other, fill-run, length-fill}
+use Rattle.laws.proofs.Entries.{Good}
 
 -- no sector that is written is written again
 abbrev pub Stays : List ℕ → List ℕ → Type 0

@@ -115,6 +115,10 @@ pub all-map : (P Q : Entry → Type 0) → ((e : Entry) → P e → Q e) → (es
 all-map P Q f [] a = tt
 all-map P Q f (e ∷ es) a = (f e (a .0), all-map P Q f es (a .1))
 
+pub all-both : (P Q : Entry → Type 0) (es : List Entry) → All P es → All Q es → All (λ e. P e × Q e) es
+all-both P Q [] a b = tt
+all-both P Q (e ∷ es) a b = ((a .0, b .0), all-both P Q es (a .1) (b .1))
+
 pub all-append : (P : Entry → Type 0) (xs ys : List Entry) → All P xs → All P ys → All P (xs ++ ys)
 all-append P [] ys a b = b
 all-append P (x ∷ xs) ys a b = (a .0, all-append P xs ys (a .1) b)

@@ -7,33 +7,26 @@ use native.Mathlib.Omega.{arith}
 use mathlib.Core.List.{List, [], _++_, _∷_}
 use lib.ListN.{drop, length, take, take-append-drop}
 use lib.Dec.{leb, ltb}
-use borrow.Author.Tests.{le-leb}
 use Rattle.rules.specs.declared.Entry.{Entry}
 use Rattle.rules.specs.declared.Head.{Head}
 use Rattle.rules.specs.Bucket.{also, blanks, blanksOf, logBlanks}
 use Rattle.rules.specs.Layout.{base, sizeOf}
 use Rattle.rules.specs.Plain.{if, zeros}
 use Rattle.rules.specs.Rewrite.{Rise, fill, into, kept, keyOf, limitOf, oneBucket, pair, renew, twoBuckets}
-use Rattle.rules.specs.Sector.{encode, legal, put, rootEntry, sectorAt}
+use Rattle.rules.specs.Sector.{encode, put, rootEntry, sectorAt}
 use Rattle.rules.specs.Walk.{Visit}
 use Rattle.rules.specs.Write.{accept, climb, finish, logFull, logged, place, placeIf, planOn, rooted, topUsed}
-use Rattle.laws.proofs.Tools.{eq-or-ne, true-and, true-false}
+use Rattle.laws.proofs.Tools.{eq-or-ne, true-false}
 use Rattle.laws.proofs.Lists.{All, all-append, all-left, all-right}
 use Rattle.laws.proofs.Sectors.{length-put, sector-put-other, sector-put-same}
-use Rattle.laws.proofs.Codec.{decode-encode, held-zeros, length-encode}
+use Rattle.laws.proofs.Codec.{length-encode}
 use Rattle.laws.proofs.Buckets.{bucket-in}
 use Rattle.laws.proofs.Blocks.{Each, blanks-each, each-map}
-use Rattle.laws.proofs.Bytes.{Fine}
+use Rattle.laws.proofs.Entries.{Fine, pair-fine, fine-says, root-says}
 use Rattle.laws.proofs.Fresh.{climb-mono, placeIf-fresh, rooted-fresh}
 use Rattle.laws.proofs.Halves.{kept-all}
 use Rattle.laws.proofs.Paths.{Along}
 use Rattle.laws.proofs.Plans.{checked-inv}
-
--- a pair is an entry as it should be
-pub pair-fine : (n s b k : ℕ) (es : List Entry) → keyOf es ≡ k → k < 4294967296 → s < 4294967296 → 1 ≤ b → b ≤ n → n ≤ 4096 → Fine n (pair s b es)
-unfolding pair legal
-pair-fine n s b k es ke kl sl lo hi nn =
-    (record { kind = omega arith; key = omega arith; stamp = sl; value = omega arith }, true-and (le-leb 1 b lo) (le-leb b n hi))
 
 -- d is put at sector i, which is blank; what is put into the bucket area is an entry with Q
 pub record Put (h : Head) (Q : Entry → Type 0) (card : List ℕ) (i : ℕ) (d : Entry) : Type 0 where
@@ -125,13 +118,6 @@ Spot h card i = (zeros (sectorAt card i) ≡ true) × (i < 1 + h .n + h .n * h .
 each-both : (P Q : ℕ → Type 0) (is : List ℕ) → Each P is → Each Q is → Each (λ i. P i × Q i) is
 each-both P Q [] a b = tt
 each-both P Q (i ∷ is) a b = ((a .0, b .0), each-both P Q is (a .1) (b .1))
-
-fine-says : (n : ℕ) (d : Entry) → Fine n d → zeros (encode d) ≡ false
-fine-says n d f = held-zeros n (encode d) d (decode-encode n d (f .0) (f .1))
-
-pub root-says : (s b : ℕ) → zeros (encode (rootEntry s b)) ≡ false
-unfolding zeros encode
-root-says s b = refl
 
 -- entries can be put so that the card becomes new
 abbrev pub Chain : Head → (Entry → Type 0) → List ℕ → List ℕ → Type 0

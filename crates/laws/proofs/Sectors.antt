@@ -58,3 +58,18 @@ sector-put-other card i j bs hb h ne = ⊎-elim behind before (le-or-lt i j)
         (simp (length-append, length-take) (omega arith))
         (simp length-append (omega (arith, len)))
         ∙ ap (λ c. sectorAt c j) (take-append-drop (16 * i + 16) card)
+
+-- a sector of sixteen bytes lies in the card
+pub sector-lies : (card : List ℕ) (i : ℕ) → length (sectorAt card i) ≡ 16 → 16 * i + 16 ≤ length card
+unfolding sectorAt
+sector-lies card i e =
+    let l = length-take 16 (drop (16 * i) card) in
+    let d = length-drop (16 * i) card in
+    omega arith
+
+pub sector-length : (card : List ℕ) (i : ℕ) → 16 * i + 16 ≤ length card → length (sectorAt card i) ≡ 16
+unfolding sectorAt
+sector-length card i le =
+    let l = length-take 16 (drop (16 * i) card) in
+    let d = length-drop (16 * i) card in
+    omega arith

@@ -1,6 +1,6 @@
 -- Two cards formatted alike whose accepted entries agree up to t answer alike as of t.
 use mathlib.Core.Option.{Option, some}
-use mathlib.Core.Bool.{true, false}
+use mathlib.Core.Bool.{false}
 use Prim.Native.Nat.{ℕ, _≤_, _<_}
 use mathlib.Core.Path.{refl, sym, ap, ap₂, subst, _∙_, _≡_}
 use mathlib.Core.Logic.{⊎-elim}
@@ -9,7 +9,6 @@ use lib.ListN.{length}
 use lib.Dec.{leb}
 use borrow.Author.Tests.{le-leb, lt-leb}
 use native.Mathlib.Omega.{arith}
-use lib.Seq.{ext-getD}
 use Rattle.rules.specs.declared.Entry.{Entry}
 use Rattle.rules.specs.declared.Head.{Head}
 use Rattle.rules.specs.Layout.{headOf, sizeOf}
@@ -17,12 +16,12 @@ use Rattle.rules.specs.Walk.{Visit, standsOn, dataOf, walk, left}
 use Rattle.rules.specs.Next.{standingAbove}
 use Rattle.rules.specs.Look.{lookOn, lookIn, look}
 use Rattle.rules.specs.Write.{accept}
-use Rattle.rules.specs.Plain.{zeros, only}
+use Rattle.rules.specs.Plain.{only}
 use Rattle.rules.specs.Format.{format, formatted, meant}
 use Rattle.laws.proofs.Halves.{only-none}
 use Rattle.laws.proofs.Lists.{All, all-map}
 use Rattle.laws.proofs.Tools.{le-or-lt}
-use Rattle.laws.proofs.Used.{zeros-get}
+use Rattle.laws.proofs.Zeros.{zero-eq}
 use Rattle.tree.proofs.AsOf.{Alike}
 use Rattle.tree.proofs.Begin.{format-inv, nothing}
 use Rattle.tree.proofs.Keeps.{Keeps, keeps-passed, keeps-wrote, keeps-step, more}
@@ -43,10 +42,6 @@ same-card c [] d b p q = sym p ∙ q
 same-card c (e ∷ es) d b p q =
     let new : q .0 ≡ p .0 = accept-inj (q .0) (p .0) (sym (q .2) ∙ p .2) in
     same-card (p .0) es d b (p .3) (subst (λ z. Since z es b) new (q .3))
-
--- format makes the same card of every blank one, with the same numbers
-pub zero-eq : (xs ys : List ℕ) → zeros xs ≡ true → zeros ys ≡ true → length xs ≡ length ys → xs ≡ ys
-zero-eq xs ys a b l = ext-getD 0 xs ys l (λ i lt. zeros-get xs i a ∙ sym (zeros-get ys i b))
 
 same-format : (h : Head) (c d : List ℕ) → Formatted h c → Formatted h d → c ≡ d
 unfolding format

@@ -4,56 +4,34 @@ use mathlib.Core.Bool.{true, false}
 use Prim.Native.Nat.{ℕ, suc, _+_, _*_, _≤_}
 use mathlib.Core.Path.{refl, sym, ap, subst, _∙_, _≡_}
 use mathlib.Core.List.{List, [], _∷_}
-use lib.ListN.{length, length-take, length-drop, replicate, drop}
-use borrow.Author.Tests.{le-leb}
+use lib.ListN.{length, replicate}
 use native.Mathlib.Omega.{arith}
 use Rattle.rules.specs.declared.Entry.{Entry}
 use Rattle.rules.specs.declared.Head.{Head}
 use Rattle.rules.specs.Layout.{headOf, sizeOf, headBytes}
-use Rattle.rules.specs.Sector.{sectorAt, rootEntry, postEntry, strikeEntry, indexEntry, put, encode, le4, legal}
+use Rattle.rules.specs.Sector.{sectorAt, rootEntry, postEntry, strikeEntry, indexEntry, put, encode}
 use Rattle.rules.specs.Write.{Plan, planFor, planCard, post, strike, plan, accept, refuse}
 use Rattle.rules.specs.Format.{formatFor, format, formatted, dummy, meant}
 use Rattle.rules.specs.Calls.{Call, formatCall, postCall, strikeCall, lookCall, nextCall, called, planned, answered}
 use Rattle.rules.specs.Rewrite.{into}
 use Rattle.rules.specs.Plain.{zeros}
-use Rattle.laws.proofs.Bytes.{Bytes, Fine}
+use Rattle.laws.proofs.Bytes.{Bytes}
 use Rattle.laws.proofs.Codec.{length-encode}
-use Rattle.laws.proofs.Heads.{Lim, limits-hold, head-facts}
+use Rattle.laws.proofs.Heads.{Lim, limits-hold, head-facts, head-length, head-says}
 use Rattle.laws.proofs.Into.{Stays}
 use Rattle.laws.proofs.Plans.{no-accept}
-use Rattle.laws.proofs.Puts.{Puts, in-card, root-says, chain-more, chain-size, into-chain}
-use Rattle.laws.proofs.Sectors.{length-put, sector-put-same, sector-put-other}
+use Rattle.laws.proofs.Puts.{Puts, in-card}
+use Rattle.laws.proofs.Entries.{root-says, Asks, post-asks, strike-asks}
+use Rattle.laws.proofs.Sectors.{length-put, sector-put-same, sector-put-other, sector-lies, sector-length}
 use Rattle.laws.proofs.Tools.{true-false}
-use Rattle.laws.proofs.Writes.{Asks, post-asks, strike-asks, call-puts}
-use Rattle.tree.proofs.Begin.{zero-sector, format-inv}
+use Rattle.laws.proofs.Writes.{call-puts, format-chain}
+use Rattle.laws.proofs.Zeros.{zero-sector, sixteen-zeros, zeros-sixteen}
+use Rattle.tree.proofs.Begin.{format-inv}
 use Rattle.promises.specs.Promises.{OfBytes, NoneOf, AllDifferent, WrittenAt, NothingIsOverwritten}
 use Rattle.promises.specs.Calls.{Sized}
-use Rattle.promises.proofs.Alike.{zero-eq}
-
--- a sector of sixteen bytes lies in the card
-sector-lies : (card : List ℕ) (i : ℕ) → length (sectorAt card i) ≡ 16 → 16 * i + 16 ≤ length card
-unfolding sectorAt
-sector-lies card i e =
-    let l = length-take 16 (drop (16 * i) card) in
-    let d = length-drop (16 * i) card in
-    omega arith
-
-sector-length : (card : List ℕ) (i : ℕ) → 16 * i + 16 ≤ length card → length (sectorAt card i) ≡ 16
-unfolding sectorAt
-sector-length card i le =
-    let l = length-take 16 (drop (16 * i) card) in
-    let d = length-drop (16 * i) card in
-    omega arith
 
 blank-lies : (card : List ℕ) (i : ℕ) → sectorAt card i ≡ replicate 16 0 → 16 * i + 16 ≤ length card
 blank-lies card i e = sector-lies card i (ap length e)
-
-sixteen-zeros : zeros (replicate 16 0) ≡ true
-unfolding zeros
-sixteen-zeros = refl
-
-zeros-sixteen : (s : List ℕ) → zeros s ≡ true → length s ≡ 16 → s ≡ replicate 16 0
-zeros-sixteen s z l = zero-eq s (replicate 16 0) z sixteen-zeros l
 
 blank-zeros : (card : List ℕ) (i : ℕ) → sectorAt card i ≡ replicate 16 0 → zeros (sectorAt card i) ≡ true
 blank-zeros card i e = ap zeros e ∙ sixteen-zeros
@@ -107,28 +85,10 @@ left-promise : (card new : List ℕ) → Left card new
 left-promise card new l =
     (written-length card (l .0) new (l .1), written-stays card (l .0) new (l .1), (l .0, written-different card (l .0) new (l .1), l .1))
 
--- format
-head-length : (h : Head) → length (headBytes h 0) ≡ 16
-unfolding headBytes le4
-head-length h = refl
-
-head-says : (h : Head) → zeros (headBytes h 0) ≡ false
-unfolding headBytes zeros
-head-says h = refl
-
-index-fine : (n : ℕ) → 2 ≤ n → Fine n (indexEntry 0 0 2)
-unfolding legal
-index-fine n lo = (record { kind = omega arith; key = omega arith; stamp = omega arith; value = omega arith }, le-leb 2 n lo)
-
-dummy-fine : (n : ℕ) → Fine n dummy
-unfolding legal
-dummy-fine n = (record { kind = omega arith; key = omega arith; stamp = omega arith; value = omega arith }, refl)
-
 formatted-left : (h : Head) (card : List ℕ) → Lim h → length card ≡ sizeOf h → zeros card ≡ true → Left card (formatted h card)
 unfolding formatted sizeOf
 formatted-left h card l size z =
     let n2 = l .n2 in
-    let any : Entry → Type 0 = λ d. Unit {0} in
     let head = headBytes h 0 in
     let root = rootEntry 0 1 in
     let c1 = put card 0 head in
@@ -137,11 +97,8 @@ formatted-left h card l size z =
     let l2 = length-put c1 1 (encode root) (length-encode root) (omega arith) in
     let one = sector-put-other card 0 1 head (head-length h) (omega arith) (λ e. omega arith) in
     let size2 = sym size ∙ sym l1 ∙ sym l2 in
-    let a3 = into-chain h any c2 size2 1 (omega arith) (omega arith) (indexEntry 0 0 2 ∷ []) ((index-fine (h .n) n2, tt), tt) in
-    let c3 = into h 1 (indexEntry 0 0 2 ∷ []) c2 in
-    let a4 = into-chain h any c3 (chain-size h any c2 c3 size2 a3) 2 (omega arith) n2 (dummy ∷ []) ((dummy-fine (h .n), tt), tt) in
-    let c4 = into h 2 (dummy ∷ []) c3 in
-    let rest = chain-more h any c2 c3 c4 a3 a4 in (
+    let c4 = into h 2 (dummy ∷ []) (into h 1 (indexEntry 0 0 2 ∷ []) c2) in
+    let rest = format-chain h c2 n2 size2 in (
       0 ∷ 1 ∷ rest .0,
       (
         head,
@@ -153,7 +110,7 @@ formatted-left h card l size z =
           zeros-sixteen (sectorAt c1 1) (ap zeros one ∙ zero-sector card 1 z) (sector-length c1 1 (omega arith)),
           length-encode root,
           root-says 0 1,
-          puts-written h any c2 (rest .0) c4 size2 (rest .1),
+          puts-written h (λ d. d .stamp ≤ 0) c2 (rest .0) c4 size2 (rest .1),
         ),
       ),
     )

@@ -18,10 +18,9 @@ use Rattle.rules.specs.Layout.{limits, headOf, headIn, headFields, sizeOf}
 use Rattle.rules.specs.Format.{format, formatFor, formatted, meant}
 use Rattle.rules.specs.Calls.{Call, formatCall, postCall, strikeCall, lookCall, nextCall, called, planned, answered}
 use Rattle.laws.proofs.Tools.{bool-cases, and-true, guard-true}
-use Rattle.laws.proofs.Used.{zeros-get}
-use Rattle.laws.proofs.Writes.{Asks, post-asks, strike-asks}
+use Rattle.laws.proofs.Zeros.{zeros-get, zero-sector}
+use Rattle.laws.proofs.Entries.{Asks, post-asks, strike-asks}
 use Rattle.tree.proofs.Keeps.{Keeps, more, keeps-step}
-use Rattle.tree.proofs.Begin.{zero-sector}
 use Rattle.promises.specs.Calls.{Sized, AllSized, cardAfter, ifAccepted, taken, accepted, Above}
 
 -- each entry in turn is accepted, and the last of the cards is d

@@ -17,7 +17,7 @@ use Rattle.rules.specs.Plain.{isNone, _&_}
 use Rattle.laws.proofs.Fresh.{freshAfter}
 use Rattle.laws.proofs.Tools.{le-or-lt, none-some}
 use Rattle.laws.proofs.Used.{used-within}
-use Rattle.laws.proofs.Writes.{Asks, asks-small, post-asks, strike-asks}
+use Rattle.laws.proofs.Entries.{Asks, asks-small, post-asks, strike-asks}
 use Rattle.tree.proofs.Ends.{ends-here}
 use Rattle.tree.proofs.Keeps.{Keeps, write-walk, keeps-write}
 use Rattle.tree.proofs.Tree.{some-inj}

@@ -13,7 +13,7 @@ use Rattle.rules.specs.Calls.{Call}
 use Rattle.rules.specs.Look.{lookOn, lookIn, look}
 use Rattle.rules.specs.Answers.{sheet}
 use Rattle.laws.proofs.Lists.{All}
-use Rattle.laws.proofs.Writes.{asks-small}
+use Rattle.laws.proofs.Entries.{asks-small}
 use Rattle.tree.proofs.Begin.{format-keeps, nothing}
 use Rattle.tree.proofs.Ends.{ends-here}
 use Rattle.tree.proofs.Found.{found-one, found-ext}

@@ -19,8 +19,7 @@ use Rattle.rules.specs.Walk.{Visit, copyOf, downTo, follow, go, goIn, met, path
 use Rattle.rules.specs.Write.{climb, placeIf}
 use Rattle.laws.proofs.Tools.{eq-or-ne, le-or-lt, true-and}
 use Rattle.laws.proofs.Lists.{All, all-append, all-map, copy-snoc-other, copy-snoc-same, follow-all, follow-gap, follow-le, upper, upper-gt, upper-le}
-use Rattle.laws.proofs.Blocks.{Good}
-use Rattle.laws.proofs.Bytes.{Fine}
+use Rattle.laws.proofs.Entries.{Good, Fine}
 use Rattle.laws.proofs.Fresh.{placeIf-fresh, climb-mono}
 use Rattle.laws.proofs.Heads.{Lim}
 use Rattle.tree.proofs.Tree.{Early, Kids, Reading, Shape, Span, Tree, tree-frame, tree-not, turn-data, turn-index}
@@ -108,7 +107,7 @@ module _ (h : Head) (lim : Lim h) (card : List ℕ) (g : ℕ → Option Entry) (
           heads = tr .2 .0;
           shape = shape-snoc (tr .0) (tr .2);
           content = vals-snoc g lo hi (tr .0) e (tr .3);
-          good = (fine .0, fine .1, tt);
+          good = (fine, tt);
           atmost = omega arith;
         }),
   )
@@ -203,7 +202,7 @@ module _ (h : Head) (lim : Lim h) (card : List ℕ) (g : ℕ → Option Entry) (
         let kids1 = content-fresh (bucket h card) rd1 g (o .opened .same) (suc k) lo hi es (tr .3) in
         let sp : All (Span true lo hi) (p ∷ []) = ((pr .1, omega arith, omega arith, pr .1), tt) in
         let t1 : Tree rd1 (upd g e) k (p .value) (p .key) u = rw pk (o .tree1) in
-        let gd : Good (h .n) (p ∷ []) = (pr .2 .0, pr .2 .1, tt) in
+        let gd : Good (h .n) (p ∷ []) = (pr .2, tt) in
         record {
           lim = lim;
           same1 = o .opened .same;
@@ -235,7 +234,7 @@ module _ (h : Head) (lim : Lim h) (card : List ℕ) (g : ℕ → Option Entry) (
         let kids1 = content-fresh (bucket h card) rd1 g (o .opened .same) (suc k) lo hi es (tr .3) in
         let sp : All (Span true lo hi) (p ∷ q ∷ []) = ((pr .1, omega arith, omega arith, pr .1), ((qr .1, omega arith, omega arith, qr .1), tt)) in
         let t1 : Tree rd1 (upd g e) k (p .value) (p .key) (q .key) = rw pk (o .tree1) in
-        let gd : Good (h .n) (p ∷ q ∷ []) = (pr .2 .0, pr .2 .1, (qr .2 .0, qr .2 .1, tt)) in
+        let gd : Good (h .n) (p ∷ q ∷ []) = (pr .2, (qr .2, tt)) in
         record {
           lim = lim;
           same1 = o .opened .same;

@@ -24,7 +24,8 @@ use Rattle.laws.proofs.Heads.{head-facts}
 use Rattle.laws.proofs.Lists.{All, all-append, all-map}
 use Rattle.laws.proofs.Plans.{plan-inv}
 use Rattle.laws.proofs.Tools.{le-or-lt}
-use Rattle.laws.proofs.Writes.{Asks, asks-kind, asks-stamp, asks-small, asks-fine, top-after}
+use Rattle.laws.proofs.Entries.{Asks, asks-kind, asks-stamp, asks-small, asks-fine}
+use Rattle.laws.proofs.Writes.{top-after}
 use Rattle.laws.proofs.Fresh.{freshAfter}
 use Rattle.laws.proofs.Stamps.{bucket-stamps}
 use Rattle.tree.proofs.Walks.{walk-late}

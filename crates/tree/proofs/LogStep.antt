@@ -17,8 +17,9 @@ use Rattle.rules.specs.Sector.{isRoot, sectorAt}
 use Rattle.laws.proofs.Tools.{guard-true, none-some, then-inv}
 use Rattle.laws.proofs.Run.{run-agree}
 use Rattle.laws.proofs.Buckets.{every-snoc, raw}
-use Rattle.laws.proofs.Blocks.{Each, Good, Lies, blanks-each, fill-other, fill-run, length-fill}
-use Rattle.laws.proofs.Bytes.{Fine, bytes-fill}
+use Rattle.laws.proofs.Blocks.{Each, Lies, blanks-each, fill-other, fill-run, length-fill}
+use Rattle.laws.proofs.Entries.{Good, Fine}
+use Rattle.laws.proofs.Bytes.{bytes-fill}
 use Rattle.tree.proofs.Ready.{Ready}
 
 -- what is read of the log, by its sectors
@@ -55,7 +56,7 @@ log-step h card f lg r rdy q room fine root =
     let inv = log-raw h card lg q in
     let is = blanks card 1 (h .n) in
     let card' = fill card is (r ∷ []) in
-    let good : Good (h .n) (r ∷ []) = (fine .0, fine .1, tt) in
+    let good : Good (h .n) (r ∷ []) = (fine, tt) in
     let lies : Each (Lies card) is = blanks-each (Lies card) card 1 (h .n) (λ j p z y. omega arith) in
     let other : (j : ℕ) → (j < 1) ⊎ (1 + h .n ≤ j) → sectorAt card' j ≡ sectorAt card j
     = λ j out. fill-other card is (r ∷ []) j lies

@@ -17,7 +17,7 @@ use Rattle.rules.specs.Sector.{isData, isIndex, sectorAt}
 use Rattle.rules.specs.Walk.{copyOf}
 use Rattle.laws.proofs.Tools.{bool-cases, eq-or-ne, le-or-lt, none-some, true-false}
 use Rattle.laws.proofs.Lists.{All, all-map, only-all, only-back}
-use Rattle.laws.proofs.Bytes.{Fine}
+use Rattle.laws.proofs.Entries.{Fine}
 use Rattle.laws.proofs.Copies.{copies-says}
 use Rattle.laws.proofs.Halves.{copies-all, kept-all}
 use Rattle.tree.proofs.AsOf.{Grows}

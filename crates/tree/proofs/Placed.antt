@@ -19,13 +19,13 @@ use Rattle.rules.specs.Walk.{Visit, copyOf}
 use Rattle.rules.specs.Write.{place}
 use Rattle.laws.proofs.Tools.{eq-or-ne, le-or-lt}
 use Rattle.laws.proofs.Lists.{All, all-append, all-left, all-map, all-right}
-use Rattle.laws.proofs.Blocks.{Good, blank-room}
-use Rattle.laws.proofs.Bytes.{Fine, all-good, good-all, run-good}
+use Rattle.laws.proofs.Entries.{Good, Fine, pair-fine}
+use Rattle.laws.proofs.Blocks.{blank-room}
+use Rattle.laws.proofs.Bytes.{run-good}
 use Rattle.laws.proofs.Halves.{Sorted, kept-all, kept-length, kept-sorted}
 use Rattle.laws.proofs.Buckets.{bucket-length, bucket-raw}
 use Rattle.laws.proofs.Heads.{Lim}
 use Rattle.laws.proofs.Into.{block-else}
-use Rattle.laws.proofs.Puts.{pair-fine}
 use Rattle.tree.proofs.AsOf.{Late}
 use Rattle.tree.proofs.Tree.{HeadIs, Shape, Span, Tree, tree-fresh}
 use Rattle.tree.proofs.Content.{Content, content-frame, content-fresh, content-high, content-kept, content-low, isIdx, shape-sound, sorted-high, sorted-low, tree-make}
@@ -115,7 +115,7 @@ module _ (h : Head) (card : List ℕ) (g g' : ℕ → Option Entry) (k b lo hi s
 
   fine-all : All (Fine (h .n)) ks
   fine-all = kept-all (Fine (h .n)) lo s (es ++ r .hand)
-      (all-append (Fine (h .n)) es (r .hand) (good-all (h .n) es es-good) (good-all (h .n) (r .hand) (bf .good)))
+      (all-append (Fine (h .n)) es (r .hand) es-good (bf .good))
 
   ks-marked : (a : (p : Entry) × (copyOf (p .key) (es ++ r .hand) ≡ some p) × (p .stamp ≡ s) × (isData p ≡ true)) → Unmarked s ks → ⊥
   ks-marked a u = kept-marked lo s (es ++ r .hand) (a .0) (a .1) (a .2) (a .3) u
@@ -126,7 +126,7 @@ module _ (h : Head) (card : List ℕ) (g g' : ℕ → Option Entry) (k b lo hi s
   unfolding pair isIndex
   one b1 fb fn len =
       let f1 = bf .fresh1 in
-      let nb = fresh-bucket h card1 (r .fresh) b1 ks (bf .ready1) fb (omega arith) fn len (all-good (h .n) ks fine-all) (shape-sound (isIdx k) lo hi ks ks-shape) in
+      let nb = fresh-bucket h card1 (r .fresh) b1 ks (bf .ready1) fb (omega arith) fn len fine-all (shape-sound (isIdx k) lo hi ks ks-shape) in
       let key = keyOf-head lo ks (ks-shape .0) in
       let rg = bf .range in
       let card2 = into h b1 ks card1 in
@@ -166,9 +166,9 @@ module _ (h : Head) (card : List ℕ) (g g' : ℕ → Option Entry) (k b lo hi s
       let x0 = xd .0 in
       let sh1 : Shape (isIdx k) lo (d .key) as1 = (sh .0, zip-span (isIdx k) lo hi (d .key) as1 (all-left (Span (isIdx k) lo hi) as1 bs1 (sh .1)) xd) in
       let sh2 : Shape (isIdx k) (d .key) hi bs1 = (refl, zip-span2 (isIdx k) lo hi (d .key) bs1 dspan (omega arith, all-map (λ e. d .key < e .key) (λ e. d .key ≤ e .key) (λ e z. omega arith) bs (sorted-high as1 d bs so))) in
-      let fb1 = fresh-bucket h card1 (r .fresh) b1 as1 (bf .ready1) fb (omega arith) (omega arith) len1 (all-good (h .n) as1 (all-left (Fine (h .n)) as1 bs1 fa)) (shape-sound (isIdx k) lo (d .key) as1 sh1) in
+      let fb1 = fresh-bucket h card1 (r .fresh) b1 as1 (bf .ready1) fb (omega arith) (omega arith) len1 (all-left (Fine (h .n)) as1 bs1 fa) (shape-sound (isIdx k) lo (d .key) as1 sh1) in
       let card2 = into h b1 as1 card1 in
-      let fb2 = fresh-bucket h card2 (b1 + 1) b2 bs1 (fb1 .ready) (omega arith) (omega arith) fn len2 (all-good (h .n) bs1 (all-right (Fine (h .n)) as1 bs1 fa)) (shape-sound (isIdx k) (d .key) hi bs1 sh2) in
+      let fb2 = fresh-bucket h card2 (b1 + 1) b2 bs1 (fb1 .ready) (omega arith) (omega arith) fn len2 (all-right (Fine (h .n)) as1 bs1 fa) (shape-sound (isIdx k) (d .key) hi bs1 sh2) in
       let card3 = into h b2 bs1 card2 in
       record {
         opened = record {

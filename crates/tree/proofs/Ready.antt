@@ -12,7 +12,7 @@ use Rattle.rules.specs.Layout.{sizeOf}
 use Rattle.rules.specs.Rewrite.{into}
 use Rattle.rules.specs.Sector.{sectorAt}
 use Rattle.rules.specs.Write.{topUsed}
-use Rattle.laws.proofs.Blocks.{Good}
+use Rattle.laws.proofs.Entries.{Good}
 use Rattle.laws.proofs.Buckets.{bucket-raw, bucket-within, raw, raw-bucket}
 use Rattle.laws.proofs.Bytes.{Bytes, bytes-fill}
 use Rattle.laws.proofs.Into.{block-else, block-size, block-raw, block-whole, block-front, block-others}

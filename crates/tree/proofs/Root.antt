@@ -19,8 +19,8 @@ use Rattle.rules.specs.Walk.{follow, left, path, pathFrom, pathIn, walk}
 use Rattle.laws.proofs.Tools.{le-or-lt}
 use Rattle.laws.proofs.Lists.{all-map, upper}
 use Rattle.laws.proofs.Run.{blanks-agree, run-agree}
-use Rattle.laws.proofs.Blocks.{Good}
-use Rattle.laws.proofs.Bytes.{Bytes, Fine, good-all, run-good}
+use Rattle.laws.proofs.Entries.{Good, Fine}
+use Rattle.laws.proofs.Bytes.{Bytes, run-good}
 use Rattle.laws.proofs.Halves.{only-every}
 use Rattle.laws.proofs.Buckets.{bucket-raw, raw}
 use Rattle.tree.proofs.Tree.{Early, Kids, Reading, Tree}
@@ -43,7 +43,7 @@ good-left : (n : ℕ) (es : List Entry) → Good n es → left 4294967295 es ≡
 unfolding left
 good-left n es g =
     only-every (λ e. leb (e .stamp) 4294967295) es
-    (all-map (Fine n) (λ e. leb (e .stamp) 4294967295 ≡ true) (λ e f. le-leb (e .stamp) 4294967295 (let z = f .0 .stamp in omega arith)) es (good-all n es g))
+    (all-map (Fine n) (λ e. leb (e .stamp) 4294967295 ≡ true) (λ e f. le-leb (e .stamp) 4294967295 (let z = f .0 .stamp in omega arith)) es g)
 
 pub early-max : (h : Head) (card : List ℕ) → Bytes card → Early 4294967295 (bucket h card)
 early-max h card b c es q = good-left (h .n) es (run-good (h .n) card b (base h c) (h .m) es (bucket-raw h card c es q .1))

@@ -15,13 +15,13 @@ use Rattle.rules.specs.Bucket.{blanksOf, bucket, log, logBlanks}
 use Rattle.rules.specs.Layout.{base, sizeOf}
 use Rattle.rules.specs.Plain.{every}
 use Rattle.rules.specs.Rewrite.{Rise, fill, into, oneBucket}
-use Rattle.rules.specs.Sector.{isData, isIndex, isRoot, legal, rootEntry, sectorAt}
+use Rattle.rules.specs.Sector.{isData, isIndex, isRoot, rootEntry, sectorAt}
 use Rattle.rules.specs.Walk.{Visit, path}
 use Rattle.rules.specs.Write.{accept, climb, finish, logFull, logged, planOn, rooted, topUsed, refuseIf, checked}
 use Rattle.laws.proofs.Tools.{true-and, true-false}
 use Rattle.laws.proofs.Lists.{All, last-snoc}
 use Rattle.laws.proofs.Blocks.{blank-room}
-use Rattle.laws.proofs.Bytes.{Fine}
+use Rattle.laws.proofs.Entries.{Fine, root-fine}
 use Rattle.laws.proofs.Buckets.{bucket-raw, bucket-within}
 use Rattle.laws.proofs.Fresh.{rooted-fresh, climb-mono, New, climb-new, freshAfter}
 use Rattle.laws.proofs.Heads.{Lim, head-facts, head-same}
@@ -49,10 +49,6 @@ pub record Wrote (h : Head) (card card' : List ℕ) (g' : ℕ → Option Entry) 
 
 all-grows : (h : Head) (card card' : List ℕ) (s : ℕ) → ((c : ℕ) (cs : List Entry) → bucket h card c ≡ some cs → bucket h card' c ≡ some cs) → Grows s (bucket h card) (bucket h card')
 all-grows h card card' s f c cs q = ([], f c cs q ∙ ap some (sym (append-nil cs)), late-nil s)
-
-pub root-fine : (n s b : ℕ) → s < 4294967296 → 1 ≤ b → b ≤ n → n ≤ 4096 → Fine n (rootEntry s b)
-unfolding legal
-root-fine n s b sl lo hi nn = (record { kind = omega arith; key = omega arith; stamp = sl; value = omega arith }, true-and (le-leb 1 b lo) (le-leb b n hi))
 
 pub is-root : (s b : ℕ) → isRoot (rootEntry s b) ≡ true
 unfolding isRoot
@@ -150,7 +146,7 @@ module _ (h : Head) (card : List ℕ) (g g' : ℕ → Option Entry) (k s : ℕ) 
       let pk = pr .0 in
       let sh : Shape true 0 4294967296 es = (pk, ((pr .1, omega arith, omega arith, pr .1), ((qr .1, omega arith, omega arith, qr .1), tt))) in
       let fb = fresh-bucket h card1 (r .fresh) f es (o .opened .ready) rf (omega arith) fn fr
-      (pr .2 .0, pr .2 .1, (qr .2 .0, qr .2 .1, tt)) (shape-sound true 0 4294967296 es sh) in
+      (pr .2, (qr .2, tt)) (shape-sound true 0 4294967296 es sh) in
       let card2 = into h f es card1 in
       let op : Open h card card2 s (f + 1) = record { ready = fb .ready; mark = (let m = o .opened .mark in (m .0, m .1, fb .same (m .0) (m .1) (m .2), m .3)); front = λ i lt. fb .front i lt ∙ o .opened .front i lt; same = λ c cs z. fb .same c cs (o .opened .same c cs z) } in
       let tr : Tree (bucket h card2) g' (suc k) f 0 4294967296 = (
