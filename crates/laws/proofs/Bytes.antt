@@ -114,7 +114,6 @@ run-good n card b i (suc c) es q =
     ))
     (onto-inv (decode n (sectorAt card i)) (run n card (suc i) c) es q)
 
-
 pub zero-bytes : (xs : List ℕ) → zeros xs ≡ true → Bytes xs
 unfolding zeros
 zero-bytes [] z = tt

@@ -1,4 +1,4 @@
--- An accepted write on any card with a head: each entry goes to a blank sector, none twice; the head, the length and what is written stay.
+-- An accepted write on any card with a head, and a format: what they put, and that no stamp is above the call's.
 use Prim.Native.Nat.{_<_, _≤_, ℕ, _+_, _*_}
 use lib.ListN.{length}
 use mathlib.Core.List.{List, [], _∷_}

@@ -1,4 +1,4 @@
--- As-of stability: what is added with a later stamp is not seen.
+-- What is added with a later stamp is not seen as of an earlier one.
 use mathlib.Core.Path.{_≡_, ap, refl, subst, sym}
 use mathlib.Core.Bool.{true}
 use mathlib.Core.Option.{Option, none, some}

@@ -1,4 +1,4 @@
--- A formatted card answers for the empty history.
+-- A card that format makes of a blank one answers that nothing stands.
 use Prim.Native.Nat.{_*_, _+_, _-_, _<_, _≤_, suc, zero, ℕ}
 use borrow.Author.Tests.{le-leb, le-ltb, eqb-true}
 use lib.Dec.{eqb}
@@ -38,7 +38,7 @@ use Rattle.laws.proofs.Writes.{chain-top, format-chain}
 use Rattle.laws.proofs.Zeros.{zero-sector}
 use Rattle.tree.proofs.Keeps.{Keeps, now-ends}
 use Rattle.tree.proofs.Ready.{Fresh, Ready, fresh-bucket}
-use Rattle.tree.proofs.Root.{State}
+use Rattle.tree.proofs.State.{State}
 use Rattle.tree.proofs.Tree.{Tree}
 
 abbrev idx : Entry

@@ -23,10 +23,10 @@ use Rattle.laws.proofs.Entries.{Good, Fine}
 use Rattle.laws.proofs.Fresh.{placeIf-fresh, climb-mono}
 use Rattle.laws.proofs.Heads.{Lim}
 use Rattle.tree.proofs.Tree.{Early, Kids, Reading, Shape, Span, Tree, tree-frame, tree-not, turn-data, turn-index}
-use Rattle.tree.proofs.Kids.{away, away-tree, kids-one, kids-two, same-upper}
+use Rattle.tree.proofs.Pairs.{away, away-tree, kids-one, kids-two, same-upper}
 use Rattle.tree.proofs.Content.{content-fresh}
-use Rattle.tree.proofs.Place.{Closed, One, Outcome, Two}
-use Rattle.tree.proofs.Placed.{Before, late-nil, place-level}
+use Rattle.tree.proofs.Outcome.{Closed, One, Outcome, Two}
+use Rattle.tree.proofs.Level.{Before, late-nil, place-level}
 use Rattle.tree.proofs.AsOf.{Late}
 use Rattle.tree.proofs.Ready.{Ready}
 

@@ -1,4 +1,4 @@
--- What the entries of a bucket say, for a data and an index bucket alike.
+-- What the entries of a bucket hold, for a data and an index bucket alike.
 use mathlib.Core.Path.{_∙_, _≡_, ap, refl, subst, sym}
 use mathlib.Core.Logic.{inr}
 use mathlib.Core.Bool.{Bool, false, not, true}

@@ -1,4 +1,4 @@
--- In a data bucket: the smallest standing bib above k.
+-- The smallest standing bib above k, in a list of entries.
 use mathlib.Core.Path.{_∙_, _≡_, ap, refl, subst, sym}
 use mathlib.Core.Logic.{_⊎_, inl, inr, ⊎-elim}
 use mathlib.Core.Bool.{Bool, false, true}
@@ -16,7 +16,7 @@ use Rattle.rules.specs.Walk.{copyOf, standing}
 use Rattle.laws.proofs.Tools.{and-true, none-some, true-and, le-or-lt, eq-or-ne}
 use Rattle.laws.proofs.Lists.{All, all-map, only-all, only-back, only-true}
 use Rattle.laws.proofs.Copies.{copy-cons, cstep}
-use Rattle.tree.proofs.Place.{copy-all, last-all}
+use Rattle.tree.proofs.Outcome.{copy-all, last-all}
 use Rattle.tree.proofs.Ends.{smaller-pick}
 
 -- a copy has the key

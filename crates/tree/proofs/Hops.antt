@@ -1,4 +1,4 @@
--- The main theorem for next: the smallest bib above k that stands as of t, or the end.
+-- Next, walk by walk: the smallest bib above k that stands, or the end.
 use mathlib.Core.Path.{_≡_, refl}
 use mathlib.Core.Logic.{inl, inr, ⊎-elim}
 use mathlib.Core.Bool.{false}

@@ -32,9 +32,9 @@ use Rattle.tree.proofs.Walks.{walk-late}
 use Rattle.tree.proofs.Climb.{upd}
 use Rattle.tree.proofs.Hops.{NextIs, next-loop}
 use Rattle.tree.proofs.Ends.{Ends, tree-ends, ends-alike, ends-ext}
-use Rattle.tree.proofs.Place.{Mark}
-use Rattle.tree.proofs.Root.{State, state-walk}
-use Rattle.tree.proofs.Step.{Wrote, write-step}
+use Rattle.tree.proofs.Outcome.{Mark}
+use Rattle.tree.proofs.State.{State, state-walk}
+use Rattle.tree.proofs.Write.{Wrote, write-step}
 use Rattle.tree.proofs.Tree.{some-inj, Early}
 
 -- what stands as of each stamp, with one accepted entry more

@@ -1,4 +1,4 @@
--- The tree of buckets: what it is, that a walk in it arrives, and what a change of one bucket leaves of it.
+-- The tree of buckets: what it is, and what a change of one bucket leaves of it.
 use mathlib.Core.Path.{_∙_, _≡_, ap, refl, subst, sym}
 use mathlib.Core.Logic.{_⊎_, inl, inr, ⊎-elim}
 use mathlib.Core.Bool.{Bool, false, true}

@@ -16,7 +16,7 @@ use Rattle.rules.specs.Walk.{Visit, left, pathFrom, pathIn, walk, dataOf}
 use Rattle.laws.proofs.Lists.{only-append}
 use Rattle.laws.proofs.Tools.{none-some}
 use Rattle.tree.proofs.AsOf.{Again, Alike, Grows, left-late, path-late}
-use Rattle.tree.proofs.Step.{Wrote}
+use Rattle.tree.proofs.Write.{Wrote}
 
 from-late : (t s x : ℕ) (rd rd' : ℕ → Option (List Entry)) (f : ℕ) (r : Option Entry) (p : List Visit) → t < s → Grows s rd rd'
     → pathFrom rd t x f r ≡ some p → Again t (pathFrom rd' t x f r) p

@@ -1,4 +1,4 @@
--- An accepted write takes a card in order to a card in order that holds the new entry, and adds only what is stamped with it.
+-- An accepted write takes a card in order to a card in order that holds the new entry; it is accepted if the fresh buckets needed remain.
 use mathlib.Core.Path.{_∙_, _≡_, ap, refl, subst, sym}
 use mathlib.Core.Logic.{inl, inr}
 use mathlib.Core.Bool.{false, true, Bool}
@@ -31,11 +31,11 @@ use Rattle.laws.proofs.Blanks.{blanks-left}
 use Rattle.tree.proofs.AsOf.{Grows, Late}
 use Rattle.tree.proofs.Tree.{Shape, Tree, tree-fresh}
 use Rattle.tree.proofs.Content.{shape-sound, tree-parts}
-use Rattle.tree.proofs.Place.{Closed, Mark, One, Open, Outcome, Two}
-use Rattle.tree.proofs.Placed.{late-nil}
+use Rattle.tree.proofs.Outcome.{Closed, Mark, One, Open, Outcome, Two}
+use Rattle.tree.proofs.Level.{late-nil}
 use Rattle.tree.proofs.Climb.{climb-tree, start, upd}
-use Rattle.tree.proofs.LogStep.{log-step, log-raw}
-use Rattle.tree.proofs.Root.{State, early-max, kids-pair, log-blanks-same, log-same}
+use Rattle.tree.proofs.Log.{log-step, log-raw}
+use Rattle.tree.proofs.State.{State, early-max, kids-pair, log-blanks-same, log-same}
 use Rattle.tree.proofs.Ready.{fresh-bucket, ready-top}
 
 -- what an accepted write with the stamp s gives

@@ -1,4 +1,4 @@
--- One level of a write: the hand is placed in a bucket, or the bucket is made anew with it.
+-- What one level of a write leaves: a bucket with the hand in it, or one or two new buckets in its place.
 use mathlib.Core.Path.{_∙_, _≡_, refl, subst, sym}
 use mathlib.Core.Logic.{_⊎_, inl, inr, ⊎-elim}
 use mathlib.Core.Bool.{Bool, false, not, true}

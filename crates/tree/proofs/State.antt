@@ -1,4 +1,4 @@
--- A card in order, and an accepted write.
+-- A card in order: its head, its log, and a tree that holds what stands.
 use mathlib.Core.Path.{_≡_, ap}
 use mathlib.Core.Logic.{⊎-elim}
 use mathlib.Core.Bool.{true}
@@ -24,7 +24,7 @@ use Rattle.laws.proofs.Bytes.{Bytes, run-good}
 use Rattle.laws.proofs.Halves.{only-every}
 use Rattle.laws.proofs.Buckets.{bucket-raw, raw}
 use Rattle.tree.proofs.Tree.{Early, Kids, Reading, Tree}
-use Rattle.tree.proofs.LogStep.{log-raw}
+use Rattle.tree.proofs.Log.{log-raw}
 
 pub record State (h : Head) (card : List ℕ) (g : ℕ → Option Entry) (k : ℕ) : Type 0 where
   pub bytes : Bytes card

@@ -1,4 +1,4 @@
--- One level of a write, from the bucket's entries with the hand behind them.
+-- One level of a write: the hand goes into the bucket, or the bucket is made anew with it.
 use mathlib.Core.Path.{_∙_, _≡_, ap, ap₂, refl, subst, sym}
 use mathlib.Core.Logic.{_⊎_, inl, inr, ⊎-elim}
 use mathlib.Core.Bool.{Bool, false, true}
@@ -29,7 +29,7 @@ use Rattle.laws.proofs.Into.{block-else}
 use Rattle.tree.proofs.AsOf.{Late}
 use Rattle.tree.proofs.Tree.{HeadIs, Shape, Span, Tree, tree-fresh}
 use Rattle.tree.proofs.Content.{Content, content-frame, content-fresh, content-high, content-kept, content-low, isIdx, shape-sound, sorted-high, sorted-low, tree-make}
-use Rattle.tree.proofs.Place.{Closed, Mark, One, Outcome, Two, Unmarked, copy-all, kept-marked, keyOf-head, shape-kept, unmarked?}
+use Rattle.tree.proofs.Outcome.{Closed, Mark, One, Outcome, Two, Unmarked, copy-all, kept-marked, keyOf-head, shape-kept, unmarked?}
 use Rattle.tree.proofs.Ready.{Ready, fresh-bucket, join-bucket}
 
 zip-span : (i : Bool) (lo hi m : ℕ) (es : List Entry) → All (Span i lo hi) es → All (λ e. e .key < m) es → All (Span i lo m) es

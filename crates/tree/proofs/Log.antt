@@ -1,4 +1,4 @@
--- A root entry put at the log's first blank.
+-- A root entry goes to the first blank of the log.
 use mathlib.Core.Path.{_∙_, _≡_, ap, refl, sym}
 use mathlib.Core.Logic.{_⊎_, inl, inr, ⊎-elim}
 use mathlib.Core.Bool.{true}
