@@ -49,13 +49,15 @@ module _ (h : Head) (s : ℕ) (met : List ℕ) (c : ℕ) (lc : 1 ≤ c) where
   unfolding oneBucket
   one-same ks r lt cap sm = into-same (r .card) (r .fresh) (omega arith) (omega arith) (λ e. omega arith) ks sm
 
-  two-same : (ls bs : List Entry) (r : Rise) → c < r .fresh → (twoBuckets h s ls bs r) .fresh ≤ h .n + 1 → Same (r .card) → Same ((twoBuckets h s ls bs r) .card)
+  two-same : (ls bs : List Entry) (r : Rise) → c < r .fresh → (twoBuckets h s ls bs r) .fresh ≤ h .n + 1 → Same (r .card)
+      → Same ((twoBuckets h s ls bs r) .card)
   unfolding twoBuckets
   two-same ls bs r lt cap sm =
       into-same (into h (r .fresh) ls (r .card)) (r .fresh + 1) (omega arith) (omega arith) (λ e. omega arith) bs
       (into-same (r .card) (r .fresh) (omega arith) (omega arith) (λ e. omega arith) ls sm)
 
-  renew-same : (td : ℕ) (ks : List Entry) (r : Rise) → c < r .fresh → (renew h s td ks r) .fresh ≤ h .n + 1 → Same (r .card) → Same ((renew h s td ks r) .card)
+  renew-same : (td : ℕ) (ks : List Entry) (r : Rise) → c < r .fresh → (renew h s td ks r) .fresh ≤ h .n + 1 → Same (r .card)
+      → Same ((renew h s td ks r) .card)
   unfolding renew
   renew-same td ks r lt =
       let j = length ks - length ks / 2 in
@@ -80,12 +82,14 @@ module _ (h : Head) (s : ℕ) (met : List ℕ) (c : ℕ) (lc : 1 ≤ c) where
         | false ↦ renew-same (limitOf h (v .entries)) ks r lt
       ]
 
-  placeIf-same : (v : Visit) (es : List Entry) (r : Rise) → Other v → c < r .fresh → (placeIf h s v es r) .fresh ≤ h .n + 1 → Same (r .card) → Same ((placeIf h s v es r) .card)
+  placeIf-same : (v : Visit) (es : List Entry) (r : Rise) → Other v → c < r .fresh → (placeIf h s v es r) .fresh ≤ h .n + 1 → Same (r .card)
+      → Same ((placeIf h s v es r) .card)
   unfolding placeIf
   placeIf-same v [] r o lt cap sm = sm
   placeIf-same v (e ∷ es) r o lt cap sm = place-same v r o lt cap sm
 
-  pub climb-same : (p : List Visit) (r : Rise) → Along Other p → c < r .fresh → (climb h s p r) .fresh ≤ h .n + 1 → Same (r .card) → Same ((climb h s p r) .card)
+  pub climb-same : (p : List Visit) (r : Rise) → Along Other p → c < r .fresh → (climb h s p r) .fresh ≤ h .n + 1 → Same (r .card)
+      → Same ((climb h s p r) .card)
   unfolding climb
   climb-same [] r o lt cap sm = sm
   climb-same (v ∷ p) r o lt cap sm =
@@ -122,7 +126,8 @@ pub record AsMet (h : Head) (card now : List ℕ) (v : Visit) : Type 0 where
   pub reads : bucket h now (v .number) ≡ some (v .entries)
 
 -- v is a bucket on the path to x, q those below it: after the levels below, the bucket of v is as the walk found it
-pub as-met : (h : Head) (card : List ℕ) → headOf card ≡ some h → (t x : ℕ) (us : List Visit) (v : Visit) (q : List Visit) → walk h card t x ≡ some (us ++ (v ∷ q))
+pub as-met : (h : Head) (card : List ℕ) → headOf card ≡ some h → (t x : ℕ) (us : List Visit) (v : Visit) (q : List Visit)
+    → walk h card t x ≡ some (us ++ (v ∷ q))
     → (s : ℕ) (es : List Entry) → (climb h s q (record { hand = es; fresh = topUsed h card (h .n) + 1; card = card })) .fresh ≤ h .n + 1
     → AsMet h card ((climb h s q (record { hand = es; fresh = topUsed h card (h .n) + 1; card = card })) .card) v
 as-met h card hq t x us v q w s es cap =

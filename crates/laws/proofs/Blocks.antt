@@ -28,7 +28,8 @@ each-map P Q f [] a = tt
 each-map P Q f (i ∷ is) a = (f i (a .0), each-map P Q f is (a .1))
 
 -- what the blanks of a run of sectors are
-pub blanks-each : (P : ℕ → Type 0) (card : List ℕ) (i c : ℕ) → ((j : ℕ) → i ≤ j → j < i + c → zeros (sectorAt card j) ≡ true → P j) → Each P (blanks card i c)
+pub blanks-each : (P : ℕ → Type 0) (card : List ℕ) (i c : ℕ) → ((j : ℕ) → i ≤ j → j < i + c → zeros (sectorAt card j) ≡ true → P j)
+    → Each P (blanks card i c)
 unfolding blanks
 blanks-each P card i zero f = tt
 blanks-each P card i (suc c) f =

@@ -60,7 +60,8 @@ bucket-raw h card (suc b) es q =
     let e = sound-inv (inv .0) es (inv .2) in
     (omega arith, inv .1 ∙ ap some e, ap soundBucket (sym e) ∙ inv .2)
 
-pub raw-bucket : (h : Head) (card : List ℕ) (b : ℕ) (es : List Entry) → 1 ≤ b → raw h card b ≡ some es → soundBucket es ≡ some es → bucket h card b ≡ some es
+pub raw-bucket : (h : Head) (card : List ℕ) (b : ℕ) (es : List Entry) → 1 ≤ b → raw h card b ≡ some es → soundBucket es ≡ some es
+    → bucket h card b ≡ some es
 unfolding bucket
 raw-bucket h card zero es lo r s = absurd (omega arith)
 raw-bucket h card (suc b) es lo r s = rw r s

@@ -89,13 +89,15 @@ pub held-inv : (n : ℕ) (s : List ℕ) (e : Entry) → decode n s ≡ Held e �
 unfolding decode
 held-inv n s e q = go (zeros s) q
   where
-    go2 : (b : Bool) → zeros (take 3 (drop 1 s)) & legal n (fields s) ≡ b → if b (Held (fields s)) Damaged ≡ Held e → (fields s ≡ e) × (legal n e ≡ true)
+    go2 : (b : Bool) → zeros (take 3 (drop 1 s)) & legal n (fields s) ≡ b → if b (Held (fields s)) Damaged ≡ Held e
+        → (fields s ≡ e) × (legal n e ≡ true)
     go2 true t z =
         let fe : fields s ≡ e = cc in
         (fe, ap (legal n) (sym fe) ∙ and-true (zeros (take 3 (drop 1 s))) (legal n (fields s)) t .1)
     go2 false t z = (cc, cc)
 
-    go : (b : Bool) → if b Blank (if (zeros (take 3 (drop 1 s)) & legal n (fields s)) (Held (fields s)) Damaged) ≡ Held e → (fields s ≡ e) × (legal n e ≡ true)
+    go : (b : Bool) → if b Blank (if (zeros (take 3 (drop 1 s)) & legal n (fields s)) (Held (fields s)) Damaged) ≡ Held e
+        → (fields s ≡ e) × (legal n e ≡ true)
     go true z = (cc, cc)
     go false z = go2 (zeros (take 3 (drop 1 s)) & legal n (fields s)) refl z
 

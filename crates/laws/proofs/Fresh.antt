@@ -75,7 +75,8 @@ place-new h s f v r le =
     elim (leb (length (r .hand)) (length (blanksOf h (r .card) (v .number)))) as (λ b. All (New f) ((if b room (renew h s (limitOf h (v .entries)) ks r)) .hand))
     [ true ↦ tt | false ↦ renew-new h s f (limitOf h (v .entries)) ks r le ]
 
-placeIf-new : (h : Head) (s f : ℕ) (v : Visit) (es : List Entry) (r : Rise) → f ≤ r .fresh → All (New f) (r .hand) → All (New f) ((placeIf h s v es r) .hand)
+placeIf-new : (h : Head) (s f : ℕ) (v : Visit) (es : List Entry) (r : Rise) → f ≤ r .fresh → All (New f) (r .hand)
+    → All (New f) ((placeIf h s v es r) .hand)
 unfolding placeIf
 placeIf-new h s f v [] r le a = a
 placeIf-new h s f v (e ∷ es) r le a = place-new h s f v r le

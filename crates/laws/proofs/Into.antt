@@ -41,7 +41,8 @@ module _ (h : Head) (card : List ℕ) (size : sizeOf h ≡ length card) (b : ℕ
   unfolding into
   block-size = size ∙ sym (length-fill card (blanksOf h card b) new here-lies)
 
-  pub block-raw : (es : List Entry) → Good (h .n) new → length new ≤ length (blanksOf h card b) → raw h card b ≡ some es → raw h (into h b new card) b ≡ some (es ++ new)
+  pub block-raw : (es : List Entry) → Good (h .n) new → length new ≤ length (blanksOf h card b) → raw h card b ≡ some es
+      → raw h (into h b new card) b ≡ some (es ++ new)
   unfolding into blanksOf sizeOf base
   block-raw es good fits eq = fill-run (h .n) card (base h b) (h .m) es new good (omega (arith, bucket-in (h .m) (h .n) b lo hi)) fits eq
 
@@ -64,7 +65,8 @@ module _ (h : Head) (card : List ℕ) (size : sizeOf h ≡ length card) (b : ℕ
       (le-or-lt b c)))
 
   pub block-whole : (es : List Entry) → Good (h .n) new → length new ≤ length (blanksOf h card b) → raw h card b ≡ some es
-      → ((c : ℕ) → 1 ≤ c → (cs : List Entry) × (raw h card c ≡ some cs)) → (c : ℕ) → 1 ≤ c → (cs : List Entry) × (raw h (into h b new card) c ≡ some cs)
+      → ((c : ℕ) → 1 ≤ c → (cs : List Entry) × (raw h card c ≡ some cs)) → (c : ℕ) → 1 ≤ c
+      → (cs : List Entry) × (raw h (into h b new card) c ≡ some cs)
   block-whole es good fits eq w c lc =
       ⊎-elim
       (λ (e : c ≡ b). (es ++ new, ap (raw h (into h b new card)) e ∙ block-raw es good fits eq))

@@ -265,3 +265,13 @@ upper-min x (e ∷ es) k hi =
     (λ le. rw (le-ltb x (e .key) le) ih)
     (λ gt. rw (lt-ltb x (e .key) gt) (omega arith))
     (le-or-lt (e .key) x)
+
+pub last-all : (P : Entry → Type 0) (es : List Entry) (d : Entry) → All P es → lastOf es ≡ some d → P d
+unfolding lastOf
+last-all P [] d a q = absurd (none-some q)
+last-all P (e ∷ []) d a q = let ed : e ≡ d = cc in subst P ed (a .0)
+last-all P (e ∷ c ∷ es) d a q = last-all P (c ∷ es) d (a .1) q
+
+pub copy-all : (P : Entry → Type 0) (x : ℕ) (es : List Entry) (d : Entry) → All P es → copyOf x es ≡ some d → P d
+unfolding copyOf
+copy-all P x es d a q = last-all P (only (λ e. eqb (e .key) x) es) d (only-all P (λ e. eqb (e .key) x) es a) q

@@ -65,7 +65,8 @@ unfolding pathIn
 inlog-reads rd t x f none p q = absurd (none-some q)
 inlog-reads rd t x f (some es) p q = from-reads rd t x f (lastOf (left t es)) p q
 
-pub walk-reads : (h : Head) (card : List ℕ) (t x : ℕ) (p : List Visit) → walk h card t x ≡ some p → Along (λ v. bucket h card (v .number) ≡ some (v .entries)) p
+pub walk-reads : (h : Head) (card : List ℕ) (t x : ℕ) (p : List Visit) → walk h card t x ≡ some p
+    → Along (λ v. bucket h card (v .number) ≡ some (v .entries)) p
 unfolding walk
 walk-reads h card t x p q = inlog-reads (bucket h card) t x (h .n) (log h card) p q
 
@@ -87,12 +88,14 @@ go-inv v (down d) on p e = let m = met-inv v (on (d .value) (d .key)) p e in inr
 abbrev Steps : (ℕ → Option (List Entry)) → ℕ → ℕ → ℕ → ℕ → Option (List Entry) → (ℕ → ℕ → Option (List Visit)) → List Visit → Type 0
 Steps rd t x b k r on p = (es : List Entry) × (r ≡ some es) × Goes (record { number = b; entries = es }) (turn t x k es) on p
 
-in-inv : (rd : ℕ → Option (List Entry)) (t x b k : ℕ) (r : Option (List Entry)) (on : ℕ → ℕ → Option (List Visit)) (p : List Visit) → goIn t x b k r on ≡ some p → Steps rd t x b k r on p
+in-inv : (rd : ℕ → Option (List Entry)) (t x b k : ℕ) (r : Option (List Entry)) (on : ℕ → ℕ → Option (List Visit)) (p : List Visit)
+    → goIn t x b k r on ≡ some p → Steps rd t x b k r on p
 unfolding goIn
 in-inv rd t x b k none on p e = absurd (none-some e)
 in-inv rd t x b k (some es) on p e = (es, refl, go-inv (record { number = b; entries = es }) (turn t x k es) on p e)
 
-path-inv : (rd : ℕ → Option (List Entry)) (t x f b k : ℕ) (p : List Visit) → path rd t x (suc f) b k ≡ some p → Steps rd t x b k (rd b) (path rd t x f) p
+path-inv : (rd : ℕ → Option (List Entry)) (t x f b k : ℕ) (p : List Visit) → path rd t x (suc f) b k ≡ some p
+    → Steps rd t x b k (rd b) (path rd t x f) p
 unfolding path
 path-inv rd t x f b k p e = in-inv rd t x b k (rd b) (path rd t x f) p e
 
@@ -126,7 +129,8 @@ goes-key : (t x k : ℕ) (es : List Entry) (v : Visit) (on : ℕ → ℕ → Opt
 goes-key t x k es v on p (inl a) = turn-key t x k es (λ z. arrived-broken (sym (a .0) ∙ z))
 goes-key t x k es v on p (inr a) = turn-key t x k es (λ z. down-broken (a .0) (sym (a .2) ∙ z))
 
-path-key : (rd : ℕ → Option (List Entry)) (t x f b k : ℕ) (p : List Visit) → path rd t x f b k ≡ some p → (es : List Entry) × (rd b ≡ some es) × (keyOf es ≡ k)
+path-key : (rd : ℕ → Option (List Entry)) (t x f b k : ℕ) (p : List Visit) → path rd t x f b k ≡ some p
+    → (es : List Entry) × (rd b ≡ some es) × (keyOf es ≡ k)
 path-key rd t x zero b k p e = absurd (path-zero rd t x b k p e)
 path-key rd t x (suc f) b k p e =
     let s = path-inv rd t x f b k p e in

@@ -40,7 +40,8 @@ abbrev pub Puts : Head → (Entry → Type 0) → List ℕ → List ℕ → List
 Puts h Q card [] new = card ≡ new
 Puts h Q card (i ∷ is) new = (d : Entry) × Put h Q card i d × Puts h Q (put card i (encode d)) is new
 
-pub puts-append : (h : Head) (Q : Entry → Type 0) (a : List ℕ) (is : List ℕ) (b : List ℕ) (js : List ℕ) (c : List ℕ) → Puts h Q a is b → Puts h Q b js c → Puts h Q a (is ++ js) c
+pub puts-append : (h : Head) (Q : Entry → Type 0) (a : List ℕ) (is : List ℕ) (b : List ℕ) (js : List ℕ) (c : List ℕ) → Puts h Q a is b
+    → Puts h Q b js c → Puts h Q a (is ++ js) c
 puts-append h Q a [] b js c p q = subst (λ z. Puts h Q z js c) (sym p) q
 puts-append h Q a (i ∷ is) b js c p q = (p .0, p .1, puts-append h Q (put a i (encode (p .0))) is b js c (p .2) q)
 
@@ -48,10 +49,12 @@ pub in-card : (h : Head) (card : List ℕ) → sizeOf h ≡ length card → (i :
 unfolding sizeOf
 in-card h card size i lt = omega arith
 
-put-size : (h : Head) (card : List ℕ) (i : ℕ) (d : Entry) → sizeOf h ≡ length card → i < 1 + h .n + h .n * h .m → sizeOf h ≡ length (put card i (encode d))
+put-size : (h : Head) (card : List ℕ) (i : ℕ) (d : Entry) → sizeOf h ≡ length card → i < 1 + h .n + h .n * h .m
+    → sizeOf h ≡ length (put card i (encode d))
 put-size h card i d size lt = size ∙ sym (length-put card i (encode d) (length-encode d) (in-card h card size i lt))
 
-pub puts-size : (h : Head) (Q : Entry → Type 0) (card : List ℕ) (is : List ℕ) (new : List ℕ) → sizeOf h ≡ length card → Puts h Q card is new → sizeOf h ≡ length new
+pub puts-size : (h : Head) (Q : Entry → Type 0) (card : List ℕ) (is : List ℕ) (new : List ℕ) → sizeOf h ≡ length card → Puts h Q card is new
+    → sizeOf h ≡ length new
 puts-size h Q card [] new size p = size ∙ ap length p
 puts-size h Q card (i ∷ is) new size p = puts-size h Q (put card i (encode (p .0))) is new (put-size h card i (p .0) size (p .1 .high)) (p .2)
 
@@ -62,7 +65,8 @@ pub record Changed (h : Head) (Q : Entry → Type 0) (card new : List ℕ) (j : 
   pub here : sectorAt new j ≡ encode entry
   pub area : 1 + h .n ≤ j → Fine (h .n) entry × Q entry
 
-pub puts-sector : (h : Head) (Q : Entry → Type 0) (card : List ℕ) (is : List ℕ) (new : List ℕ) → sizeOf h ≡ length card → Puts h Q card is new → (j : ℕ)
+pub puts-sector : (h : Head) (Q : Entry → Type 0) (card : List ℕ) (is : List ℕ) (new : List ℕ) → sizeOf h ≡ length card → Puts h Q card is new
+    → (j : ℕ)
     → (sectorAt new j ≡ sectorAt card j) ⊎ Changed h Q card new j
 puts-sector h Q card [] new size p j = inl (ap (λ z. sectorAt z j) (sym p))
 puts-sector h Q card (i ∷ is) new size p j =
@@ -132,7 +136,8 @@ chain-more h Q a b c p q = (p .0 ++ q .0, puts-append h Q a (p .0) b (q .0) c (p
 pub chain-size : (h : Head) (Q : Entry → Type 0) (card new : List ℕ) → sizeOf h ≡ length card → Chain h Q card new → sizeOf h ≡ length new
 chain-size h Q card new size p = puts-size h Q card (p .0) new size (p .1)
 
-fill-chain : (h : Head) (Q : Entry → Type 0) (card : List ℕ) → sizeOf h ≡ length card → (lo : ℕ) (is : List ℕ) (es : List Entry) → Rising lo is → Each (Spot h card) is → All (λ d. Fine (h .n) d × Q d) es
+fill-chain : (h : Head) (Q : Entry → Type 0) (card : List ℕ) → sizeOf h ≡ length card → (lo : ℕ) (is : List ℕ) (es : List Entry) → Rising lo is
+    → Each (Spot h card) is → All (λ d. Fine (h .n) d × Q d) es
     → Chain h Q card (fill card is es)
 unfolding fill
 fill-chain h Q card size lo is [] r sp a = ([], refl)
@@ -146,14 +151,16 @@ fill-chain h Q card size lo (i ∷ is) (e ∷ es) r sp a =
     let ih = fill-chain h Q card1 (put-size h card i e size (sp .0 .1)) (suc i) is es (r .1) sp1 (a .1) in
     (i ∷ ih .0, (e, record { blank = sp .0 .0; high = sp .0 .1; says = fine-says (h .n) e (a .0 .0); area = λ z. a .0 }, ih .1))
 
-pub into-chain : (h : Head) (Q : Entry → Type 0) (card : List ℕ) → sizeOf h ≡ length card → (b : ℕ) → 1 ≤ b → b ≤ h .n → (es : List Entry) → All (λ d. Fine (h .n) d × Q d) es
+pub into-chain : (h : Head) (Q : Entry → Type 0) (card : List ℕ) → sizeOf h ≡ length card → (b : ℕ) → 1 ≤ b → b ≤ h .n → (es : List Entry)
+    → All (λ d. Fine (h .n) d × Q d) es
     → Chain h Q card (into h b es card)
 unfolding into blanksOf base
 into-chain h Q card size b lo hi es a =
     fill-chain h Q card size (base h b) (blanks card (base h b) (h .m)) es (blanks-rising card (base h b) (h .m))
     (blanks-each (Spot h card) card (base h b) (h .m) (λ j p q z. (z, omega (arith, bucket-in (h .m) (h .n) b lo hi)))) a
 
-log-one : (h : Head) (Q : Entry → Type 0) (card : List ℕ) (s b : ℕ) (is : List ℕ) → Each (λ i. Spot h card i × (i < 1 + h .n)) is → Chain h Q card (fill card is (rootEntry s b ∷ []))
+log-one : (h : Head) (Q : Entry → Type 0) (card : List ℕ) (s b : ℕ) (is : List ℕ) → Each (λ i. Spot h card i × (i < 1 + h .n)) is
+    → Chain h Q card (fill card is (rootEntry s b ∷ []))
 unfolding fill
 log-one h Q card s b [] a = ([], refl)
 log-one h Q card s b (i ∷ is) a =
@@ -187,7 +194,8 @@ module _ (h : Head) (n4096 : h .n ≤ 4096) (s : ℕ) (s32 : s < 4294967296) (Q 
   unfolding oneBucket
   one-ok ks r a o lo cap = (into-ok (r .fresh) ks (r .card) lo (omega arith) a (o .0), (pair-ok (r .fresh) ks a lo (omega arith), tt))
 
-  two-ok : (ls bs : List Entry) (r : Rise) → All P ls → All P bs → Ok r → 1 ≤ r .fresh → (twoBuckets h s ls bs r) .fresh ≤ h .n + 1 → Ok (twoBuckets h s ls bs r)
+  two-ok : (ls bs : List Entry) (r : Rise) → All P ls → All P bs → Ok r → 1 ≤ r .fresh → (twoBuckets h s ls bs r) .fresh ≤ h .n + 1
+      → Ok (twoBuckets h s ls bs r)
   unfolding twoBuckets
   two-ok ls bs r a b o lo cap = (
     into-ok (r .fresh + 1) bs (into h (r .fresh) ls (r .card)) (omega arith) (omega arith) b (into-ok (r .fresh) ls (r .card) lo (omega arith) a (o .0)),
@@ -199,7 +207,8 @@ module _ (h : Head) (n4096 : h .n ≤ 4096) (s : ℕ) (s32 : s < 4294967296) (Q 
   renew-ok td ks r a o lo =
       let j = length ks - length ks / 2 in
       let ab : All P (take j ks ++ drop j ks) = subst (All P) (sym (take-append-drop j ks)) a in
-      elim (ltb (length ks) td) as (λ b. (if b (oneBucket h s ks r) (twoBuckets h s (take j ks) (drop j ks) r)) .fresh ≤ h .n + 1 → Ok (if b (oneBucket h s ks r) (twoBuckets h s (take j ks) (drop j ks) r))) [
+      let two = twoBuckets h s (take j ks) (drop j ks) r in
+      elim (ltb (length ks) td) as (λ b. (if b (oneBucket h s ks r) two) .fresh ≤ h .n + 1 → Ok (if b (oneBucket h s ks r) two)) [
         | true ↦ one-ok ks r a o lo
         | false ↦ two-ok (take j ks) (drop j ks) r (all-left P (take j ks) (drop j ks) ab) (all-right P (take j ks) (drop j ks) ab) o lo
       ]
@@ -213,12 +222,14 @@ module _ (h : Head) (n4096 : h .n ≤ 4096) (s : ℕ) (s32 : s < 4294967296) (Q 
   place-ok v r a o lo =
       let ks = kept (keyOf (v .entries)) s (v .entries ++ r .hand) in
       let room : Rise = record { hand = []; fresh = r .fresh; card = into h (v .number) (r .hand) (r .card) } in
-      elim (leb (length (r .hand)) (length (blanksOf h (r .card) (v .number)))) as (λ b. (if b room (renew h s (limitOf h (v .entries)) ks r)) .fresh ≤ h .n + 1 → Ok (if b room (renew h s (limitOf h (v .entries)) ks r))) [
+      let anew = renew h s (limitOf h (v .entries)) ks r in
+      elim (leb (length (r .hand)) (length (blanksOf h (r .card) (v .number)))) as (λ b. (if b room anew) .fresh ≤ h .n + 1 → Ok (if b room anew)) [
         | true ↦ λ cap. (into-ok (v .number) (r .hand) (r .card) (a .0) (a .1) (o .1) (o .0), tt)
         | false ↦ renew-ok (limitOf h (v .entries)) ks r (kept-all P (keyOf (v .entries)) s (v .entries ++ r .hand) (all-append P (v .entries) (r .hand) (a .2) (o .1))) o lo
       ]
 
-  placeIf-ok : (v : Visit) (es : List Entry) (r : Rise) → Sits v → Ok r → 1 ≤ r .fresh → (placeIf h s v es r) .fresh ≤ h .n + 1 → Ok (placeIf h s v es r)
+  placeIf-ok : (v : Visit) (es : List Entry) (r : Rise) → Sits v → Ok r → 1 ≤ r .fresh → (placeIf h s v es r) .fresh ≤ h .n + 1
+      → Ok (placeIf h s v es r)
   unfolding placeIf
   placeIf-ok v [] r a o lo cap = o
   placeIf-ok v (e ∷ es) r a o lo cap = place-ok v r a o lo cap
@@ -236,14 +247,16 @@ module _ (h : Head) (n4096 : h .n ≤ 4096) (s : ℕ) (s32 : s < 4294967296) (Q 
   unfolding logged
   logged-ok b r o = chain-more h Q card (r .card) (fill (r .card) (logBlanks h (r .card)) (rootEntry s b ∷ [])) o (log-chain h Q (r .card) s b)
 
-  pub rooted-ok : (top : List Entry) (r : Rise) → All P top → Ok r → 1 ≤ r .fresh → (rooted h s top r) .fresh ≤ h .n + 1 → Chain h Q card ((rooted h s top r) .card)
+  pub rooted-ok : (top : List Entry) (r : Rise) → All P top → Ok r → 1 ≤ r .fresh → (rooted h s top r) .fresh ≤ h .n + 1
+      → Chain h Q card ((rooted h s top r) .card)
   unfolding rooted logged
   rooted-ok [] r a o lo cap = o .0
   rooted-ok (e ∷ []) r a o lo cap = logged-ok (e .value) r (o .0)
   rooted-ok (e ∷ d ∷ es) r a o lo cap = logged-ok (r .fresh) (oneBucket h s (e ∷ d ∷ es) r) (one-ok (e ∷ d ∷ es) r a o lo cap .0)
 
 -- the whole of an accepted write
-pub plan-chain : (h : Head) → h .n ≤ 4096 → (Q : Entry → Type 0) (e : Entry) → ((b : ℕ) (ks : List Entry) → Q (pair (e .stamp) b ks)) → (card : List ℕ) → sizeOf h ≡ length card
+pub plan-chain : (h : Head) → h .n ≤ 4096 → (Q : Entry → Type 0) (e : Entry) → ((b : ℕ) (ks : List Entry) → Q (pair (e .stamp) b ks))
+    → (card : List ℕ) → sizeOf h ≡ length card
     → Fine (h .n) e × Q e → (p : List Visit) → Along (λ v. (1 ≤ v .number) × (v .number ≤ h .n) × All (λ d. Fine (h .n) d × Q d) (v .entries)) p
     → (new : List ℕ) → planOn h card e p ≡ accept new → Chain h Q card new
 unfolding planOn finish

@@ -39,7 +39,8 @@ back p q z j e h = ap (take 16) (one p h ∙ ap (λ n. drop (16 * j - n) z) e �
         let eq : 16 * j ≡ length r + (16 * j - length r) = omega arith in
         ap (λ n. drop n (r ++ z)) eq ∙ drop-append-add r z (16 * j - length r)
 
-pub sector-put-other : (card : List ℕ) (i j : ℕ) (bs : List ℕ) → length bs ≡ 16 → 16 * i + 16 ≤ length card → (j ≡ i → ⊥) → sectorAt (put card i bs) j ≡ sectorAt card j
+pub sector-put-other : (card : List ℕ) (i j : ℕ) (bs : List ℕ) → length bs ≡ 16 → 16 * i + 16 ≤ length card → (j ≡ i → ⊥)
+    → sectorAt (put card i bs) j ≡ sectorAt card j
 unfolding put
 sector-put-other card i j bs hb h ne = ⊎-elim behind before (le-or-lt i j)
   where

@@ -68,7 +68,8 @@ chain-top h s card new size ch old =
     (puts-sector h (λ d. d .stamp ≤ s) card (ch .0) new size (ch .1) j))
 
 -- so no stamp in the buckets is above the call's
-pub top-after : (h : Head) (card : List ℕ) → headOf card ≡ some h → Bytes card → (e : Entry) → Asks e → (new : List ℕ) → plan card e ≡ accept new → stampOn h new ≤ e .stamp
+pub top-after : (h : Head) (card : List ℕ) → headOf card ≡ some h → Bytes card → (e : Entry) → Asks e → (new : List ℕ) → plan card e ≡ accept new
+    → stampOn h new ≤ e .stamp
 unfolding stampOn
 top-after h card hq by e a new q =
     let pw = plan-walk h card e new hq q in

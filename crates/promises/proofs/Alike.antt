@@ -55,7 +55,8 @@ same-format h c d f e =
 abbrev SameWalks : Head → ℕ → List ℕ → List ℕ → Type 0
 SameWalks h t c d = (x : ℕ) → x < 4294967296 → (p : List Visit) × (q : List Visit) × (walk h c t x ≡ some p) × (walk h d t x ≡ some q) × Alike t p q
 
-same-walks : (h : Head) (c : List ℕ) (g : ℕ → ℕ → Option Entry) (begin s : ℕ) → Keeps h c g begin s → (t : ℕ) → begin ≤ t → (d : List ℕ) → c ≡ d → SameWalks h t c d
+same-walks : (h : Head) (c : List ℕ) (g : ℕ → ℕ → Option Entry) (begin s : ℕ) → Keeps h c g begin s → (t : ℕ) → begin ≤ t → (d : List ℕ) → c ≡ d
+    → SameWalks h t c d
 same-walks h c g begin s ke t le d q =
     subst (SameWalks h t c) q (λ x lt. let a = ke .answers t x le lt in (a .0, a .0, a .1, a .1, alike-refl t (a .0)))
 
@@ -73,7 +74,8 @@ late-walks h c g begin s ke t le (e ∷ es) d q a x lt =
     (o .0, rest .1, o .1, rest .3, alike-trans t (o .0) (rest .0) (rest .1) (subst (Alike t (o .0)) meet (one .2)) (rest .4))
 
 -- stamps rise
-since-rises : (h : Head) (c : List ℕ) (g : ℕ → ℕ → Option Entry) (begin s : ℕ) → Keeps h c g begin s → (es : List Entry) (d : List ℕ) → Since c es d → All (λ e. s < e .stamp) es
+since-rises : (h : Head) (c : List ℕ) (g : ℕ → ℕ → Option Entry) (begin s : ℕ) → Keeps h c g begin s → (es : List Entry) (d : List ℕ) → Since c es d
+    → All (λ e. s < e .stamp) es
 since-rises h c g begin s ke [] d q = tt
 since-rises h c g begin s ke (e ∷ es) d q =
     let up = keeps-passed h c g begin s ke e (q .1) (q .0) (q .2) .1 in
@@ -105,7 +107,8 @@ replay h c g begin s ke t le (e ∷ es) d q =
     (c, subst (λ z. Since c z c) (sym (left-past t (e ∷ es) past)) refl, late-walks h c g begin s ke t le (e ∷ es) d q past))
     (le-or-lt (e .stamp) t)
 
-look-alike : (h : Head) (c d : List ℕ) → headOf c ≡ some h → headOf d ≡ some h → (t x : ℕ) (p q : List Visit) → walk h c t x ≡ some p → walk h d t x ≡ some q
+look-alike : (h : Head) (c d : List ℕ) → headOf c ≡ some h → headOf d ≡ some h → (t x : ℕ) (p q : List Visit) → walk h c t x ≡ some p
+    → walk h d t x ≡ some q
     → length p ≡ length q → left t (dataOf p) ≡ left t (dataOf q) → look c x t ≡ look d x t
 unfolding look lookIn lookOn standsOn
 look-alike h c d hc hd t x p q wp wq l e = rw (hc, hd, wp, wq, l, e)

@@ -131,7 +131,8 @@ headless : (card : List ℕ) (e : Entry) (new : List ℕ) → headOf card ≡ no
 unfolding plan planFor
 headless card e new hq q = no-accept 1 new (rw hq at q)
 
-plan-left : (card : List ℕ) → Bytes card → (e : Entry) → Asks e → (o : Option Head) → headOf card ≡ o → (p : Plan) → plan card e ≡ p → Left card (planCard card p)
+plan-left : (card : List ℕ) → Bytes card → (e : Entry) → Asks e → (o : Option Head) → headOf card ≡ o → (p : Plan) → plan card e ≡ p
+    → Left card (planCard card p)
 unfolding planCard
 plan-left card by e a none hq (refuse c) q = ([], refl)
 plan-left card by e a none hq (accept new) q = absurd (headless card e new hq q)

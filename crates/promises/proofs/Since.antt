@@ -34,7 +34,8 @@ after g [] = g
 after g (e ∷ es) = after (more g e) es
 
 -- the last card, with the stamp of its newest entry
-pub since-keeps : (h : Head) (c : List ℕ) (g : ℕ → ℕ → Option Entry) (begin s : ℕ) → Keeps h c g begin s → (es : List Entry) (d : List ℕ) → Since c es d
+pub since-keeps : (h : Head) (c : List ℕ) (g : ℕ → ℕ → Option Entry) (begin s : ℕ) → Keeps h c g begin s → (es : List Entry) (d : List ℕ)
+    → Since c es d
     → (last : ℕ) × Keeps h d (after g es) begin last × ((at : ℕ) → s < at → Above at es → last < at)
 since-keeps h c g begin s ke [] d q = (s, subst (λ z. Keeps h z g begin s) q ke, λ at lt up. lt)
 since-keeps h c g begin s ke (e ∷ es) d q =
@@ -84,7 +85,8 @@ call-step h c hq (strikeCall bib at) s = plan-step c (strikeEntry bib at) (strik
 call-step h c hq (lookCall bib t) s = inl (refl, refl)
 call-step h c hq (nextCall bib t) s = inl (refl, refl)
 
-pub calls-since : (h : Head) (c : List ℕ) (g : ℕ → ℕ → Option Entry) (begin s : ℕ) → Keeps h c g begin s → (ks : List Call) → AllSized ks → Since c (accepted c ks) (cardAfter c ks)
+pub calls-since : (h : Head) (c : List ℕ) (g : ℕ → ℕ → Option Entry) (begin s : ℕ) → Keeps h c g begin s → (ks : List Call) → AllSized ks
+    → Since c (accepted c ks) (cardAfter c ks)
 unfolding accepted cardAfter
 calls-since h c g begin s ke [] z = refl
 calls-since h c g begin s ke (k ∷ ks) z =

@@ -39,7 +39,8 @@ unfolding sheet
 sheet-reads bib reads none = refl
 sheet-reads bib reads (some e) = refl
 
-keeps-look : (h : Head) (card : List ℕ) (es : List Entry) (last : ℕ) → Keeps h card (after (λ t. nothing) es) 0 last → (bib t : ℕ) → 1 ≤ bib → bib < 4294967296
+keeps-look : (h : Head) (card : List ℕ) (es : List Entry) (last : ℕ) → Keeps h card (after (λ t. nothing) es) 0 last → (bib t : ℕ) → 1 ≤ bib
+    → bib < 4294967296
     → (p : List Visit) × (walk h card t bib ≡ some p) × (look card bib t ≡ sheet bib (length p) (standsAsOf t bib es))
 unfolding look lookIn lookOn
 keeps-look h card es last ke bib t lo hi =

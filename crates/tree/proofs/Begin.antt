@@ -231,7 +231,8 @@ format-inv card h new q =
     (c .0, eqb-true (length card) (sizeOf h) (c .1), not-false (zeros card) (b .0), cc)
 
 -- a card that format makes of a blank one answers that nothing stands
-pub format-keeps : (card : List ℕ) (n m td ti : ℕ) (new : List ℕ) → format card n m td ti ≡ accept new → Keeps (meant n m td ti) new (λ t. nothing) 0 0
+pub format-keeps : (card : List ℕ) (n m td ti : ℕ) (new : List ℕ) → format card n m td ti ≡ accept new
+    → Keeps (meant n m td ti) new (λ t. nothing) 0 0
 unfolding format formatted blanksOf
 format-keeps card n m td ti new q =
     let h = meant n m td ti in

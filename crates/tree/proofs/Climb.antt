@@ -39,7 +39,8 @@ path-data : (rd : Reading) (g : ℕ → Option Entry) (t b lo hi x f : ℕ) (tr 
 unfolding path goIn go
 path-data rd g t b lo hi x f tr = rw (tr .1, turn-data t x lo hi (tr .0) (tr .2))
 
-path-index : (rd : Reading) (g : ℕ → Option Entry) (t : ℕ) → Early t rd → (k b lo hi x f : ℕ) (tr : Tree rd g (suc k) b lo hi) (d : Entry) → follow x (tr .0) ≡ some d
+path-index : (rd : Reading) (g : ℕ → Option Entry) (t : ℕ) → Early t rd → (k b lo hi x f : ℕ) (tr : Tree rd g (suc k) b lo hi) (d : Entry)
+    → follow x (tr .0) ≡ some d
     → path rd t x (suc f) b lo ≡ met (record { number = b; entries = tr .0 }) (path rd t x f (d .value) (d .key))
 unfolding path goIn go downTo
 path-index rd g t early k b lo hi x f tr d q = rw (tr .1, turn-index t x lo hi (tr .0) (tr .2), early b (tr .0) (tr .1), q)
@@ -87,7 +88,8 @@ Climbs h card g e f0 t k b lo hi f =
 
 module _ (h : Head) (lim : Lim h) (card : List ℕ) (g : ℕ → Option Entry) (t : ℕ) (early : Early t (bucket h card))
     (e : Entry) (fine : Fine (h .n) e) (isd : (isIndex e ≡ false) × (isData e ≡ true)) (f0 : ℕ) (ready : Ready h card f0) (f1 : 1 ≤ f0) where
-  leaf-level : (b lo hi f : ℕ) (tr : Tree (bucket h card) g zero b lo hi) → lo < hi → hi ≤ 4294967296 → lo ≤ e .key → e .key < hi → Climbs h card g e f0 t zero b lo hi (suc f)
+  leaf-level : (b lo hi f : ℕ) (tr : Tree (bucket h card) g zero b lo hi) → lo < hi → hi ≤ 4294967296 → lo ≤ e .key → e .key < hi
+      → Climbs h card g e f0 t zero b lo hi (suc f)
   unfolding climb placeIf every
   leaf-level b lo hi f tr lt h32 le lh = (
     record { number = b; entries = tr .0 } ∷ [],
@@ -136,7 +138,8 @@ module _ (h : Head) (lim : Lim h) (card : List ℕ) (g : ℕ → Option Entry) (
         sym (rw (ne-eqb (e .key) x (λ z. ⊎-elim (λ q. omega arith) (λ q. omega arith) o)))
 
     -- below, a bucket was changed
-    closed-up : (card' : List ℕ) (f : ℕ) → Closed h card card' g (upd g e) k (d .value) (d .key) u (e .stamp) f → Closed h card card' g (upd g e) (suc k) b lo hi (e .stamp) f
+    closed-up : (card' : List ℕ) (f : ℕ) → Closed h card card' g (upd g e) k (d .value) (d .key) u (e .stamp) f
+        → Closed h card card' g (upd g e) (suc k) b lo hi (e .stamp) f
     closed-up card' f c =
         let w = c .within in
         let span = follow-all (Span true lo hi) (e .key) es d (tr .2 .1) sd in

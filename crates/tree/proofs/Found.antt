@@ -14,9 +14,8 @@ use Rattle.rules.specs.Plain.{_&_, if, isNone, keepIf, lastOf, only, smaller, s
 use Rattle.rules.specs.Sector.{isPost}
 use Rattle.rules.specs.Walk.{copyOf, standing}
 use Rattle.laws.proofs.Tools.{and-true, none-some, true-and, le-or-lt, eq-or-ne}
-use Rattle.laws.proofs.Lists.{All, all-map, only-all, only-back, only-true}
+use Rattle.laws.proofs.Lists.{All, all-map, only-all, only-back, only-true, copy-all, last-all}
 use Rattle.laws.proofs.Copies.{copy-cons, cstep}
-use Rattle.tree.proofs.Outcome.{copy-all, last-all}
 use Rattle.tree.proofs.Ends.{smaller-pick}
 
 -- a copy has the key

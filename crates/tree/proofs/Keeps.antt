@@ -62,7 +62,8 @@ early-upto : (h : Head) (card : List ℕ) (t : ℕ) → sizeOf h ≡ length card
 early-upto h card t size le c cs q = left-upto t cs (bucket-stamps h card size t le c cs q)
 
 -- as of a stamp that nothing is after, a card in order gives what its tree holds
-pub now-ends : (h : Head) (card : List ℕ) (g : ℕ → Option Entry) (k : ℕ) (st : State h card g k) (t : ℕ) → stampOn h card ≤ t → All (λ e. e .stamp ≤ t) (st .logs)
+pub now-ends : (h : Head) (card : List ℕ) (g : ℕ → Option Entry) (k : ℕ) (st : State h card g k) (t : ℕ) → stampOn h card ≤ t
+    → All (λ e. e .stamp ≤ t) (st .logs)
     → (x : ℕ) → x < 4294967296 → (p : List Visit) × (walk h card t x ≡ some p) × Ends g t x 0 4294967296 p
 unfolding walk pathIn pathFrom
 now-ends h card g k st t up lu x lt =
@@ -155,7 +156,8 @@ module _ (h : Head) (card : List ℕ) (g : ℕ → ℕ → Option Entry) (begin 
       }
 
 -- next: the smallest bib above k that stands as of t, or the end
-pub keeps-next : (h : Head) (card : List ℕ) (g : ℕ → ℕ → Option Entry) (begin s : ℕ) → Keeps h card g begin s → (k t : ℕ) → begin ≤ t → k < 4294967296 → NextIs (g t) k (next card k t)
+pub keeps-next : (h : Head) (card : List ℕ) (g : ℕ → ℕ → Option Entry) (begin s : ℕ) → Keeps h card g begin s → (k t : ℕ) → begin ≤ t → k < 4294967296
+    → NextIs (g t) k (next card k t)
 unfolding next nextIn
 keeps-next h card g begin s ke k t le lt =
     rw (ke .state .head)

@@ -18,18 +18,18 @@ use Rattle.rules.specs.Sector.{isData, isIndex, sectorAt}
 use Rattle.rules.specs.Walk.{Visit, copyOf}
 use Rattle.rules.specs.Write.{place}
 use Rattle.laws.proofs.Tools.{eq-or-ne, le-or-lt}
-use Rattle.laws.proofs.Lists.{All, all-append, all-left, all-map, all-right}
+use Rattle.laws.proofs.Lists.{All, all-append, all-left, all-map, all-right, copy-all}
 use Rattle.laws.proofs.Entries.{Good, Fine, pair-fine}
 use Rattle.laws.proofs.Blocks.{blank-room}
 use Rattle.laws.proofs.Bytes.{run-good}
-use Rattle.laws.proofs.Halves.{Sorted, kept-all, kept-length, kept-sorted}
+use Rattle.laws.proofs.Halves.{Sorted, kept-all, kept-length, kept-sorted, sorted-high, sorted-low}
 use Rattle.laws.proofs.Buckets.{bucket-length, bucket-raw}
 use Rattle.laws.proofs.Heads.{Lim}
 use Rattle.laws.proofs.Into.{block-else}
 use Rattle.tree.proofs.AsOf.{Late}
 use Rattle.tree.proofs.Tree.{HeadIs, Shape, Span, Tree, tree-fresh}
-use Rattle.tree.proofs.Content.{Content, content-frame, content-fresh, content-high, content-kept, content-low, isIdx, shape-sound, sorted-high, sorted-low, tree-make}
-use Rattle.tree.proofs.Outcome.{Closed, Mark, One, Outcome, Two, Unmarked, copy-all, kept-marked, keyOf-head, shape-kept, unmarked?}
+use Rattle.tree.proofs.Content.{Content, content-frame, content-fresh, content-high, content-kept, content-low, isIdx, shape-sound, tree-make}
+use Rattle.tree.proofs.Outcome.{Closed, Mark, One, Outcome, Two, Unmarked, kept-marked, keyOf-head, shape-kept, unmarked?}
 use Rattle.tree.proofs.Ready.{Ready, fresh-bucket, join-bucket}
 
 zip-span : (i : Bool) (lo hi m : ℕ) (es : List Entry) → All (Span i lo hi) es → All (λ e. e .key < m) es → All (Span i lo m) es
@@ -165,7 +165,8 @@ module _ (h : Head) (card : List ℕ) (g g' : ℕ → Option Entry) (k b lo hi s
       let xk = sh .0 in
       let x0 = xd .0 in
       let sh1 : Shape (isIdx k) lo (d .key) as1 = (sh .0, zip-span (isIdx k) lo hi (d .key) as1 (all-left (Span (isIdx k) lo hi) as1 bs1 (sh .1)) xd) in
-      let sh2 : Shape (isIdx k) (d .key) hi bs1 = (refl, zip-span2 (isIdx k) lo hi (d .key) bs1 dspan (omega arith, all-map (λ e. d .key < e .key) (λ e. d .key ≤ e .key) (λ e z. omega arith) bs (sorted-high as1 d bs so))) in
+      let above = all-map (λ e. d .key < e .key) (λ e. d .key ≤ e .key) (λ e z. omega arith) bs (sorted-high as1 d bs so) in
+      let sh2 : Shape (isIdx k) (d .key) hi bs1 = (refl, zip-span2 (isIdx k) lo hi (d .key) bs1 dspan (omega arith, above)) in
       let fb1 = fresh-bucket h card1 (r .fresh) b1 as1 (bf .ready1) fb (omega arith) (omega arith) len1 (all-left (Fine (h .n)) as1 bs1 fa) (shape-sound (isIdx k) lo (d .key) as1 sh1) in
       let card2 = into h b1 as1 card1 in
       let fb2 = fresh-bucket h card2 (b1 + 1) b2 bs1 (fb1 .ready) (omega arith) (omega arith) fn len2 (all-right (Fine (h .n)) as1 bs1 fa) (shape-sound (isIdx k) (d .key) hi bs1 sh2) in
@@ -243,7 +244,8 @@ module _ (h : Head) (card : List ℕ) (g g' : ℕ → Option Entry) (k b lo hi s
       let fr = fresh-room r (r .fresh) (r .fresh) (bf .ready1) (omega arith) (omega arith) in
       inr (inl (pair s (r .fresh) ks, refl, one (r .fresh) (omega arith) (omega arith) (omega arith))))
 
-  out-two : (j : ℕ) → j ≡ length ks - length ks / 2 → 2 ≤ length ks → length ks ≤ h .m + 2 → (ls bs : List Entry) → take j ks ≡ ls → drop j ks ≡ bs → Out (twoBuckets h s ls bs r)
+  out-two : (j : ℕ) → j ≡ length ks - length ks / 2 → 2 ≤ length ks → length ks ≤ h .m + 2 → (ls bs : List Entry) → take j ks ≡ ls → drop j ks ≡ bs
+      → Out (twoBuckets h s ls bs r)
   unfolding twoBuckets
   out-two j jj l2 lm ls bs te de cap =
       go ls bs (sym (take-append-drop j ks) ∙ ap₂ _++_ te de) (sym (ap length te) ∙ length-take j ks) (sym (ap length de) ∙ length-drop j ks) cap

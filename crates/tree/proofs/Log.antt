@@ -48,7 +48,8 @@ pub record Logged (h : Head) (card card' : List ℕ) (f : ℕ) (lg : List Entry)
   pub logged : log h card' ≡ some lg
   pub same : (c : ℕ) → bucket h card' c ≡ bucket h card c
 
-pub log-step : (h : Head) (card : List ℕ) (f : ℕ) (lg : List Entry) (r : Entry) → Ready h card f → log h card ≡ some lg → 1 ≤ length (logBlanks h card)
+pub log-step : (h : Head) (card : List ℕ) (f : ℕ) (lg : List Entry) (r : Entry) → Ready h card f → log h card ≡ some lg
+    → 1 ≤ length (logBlanks h card)
     → Fine (h .n) r → isRoot r ≡ true → Logged h card (fill card (logBlanks h card) (r ∷ [])) f (lg ++ (r ∷ []))
 unfolding log logBlanks bucket sizeOf base
 log-step h card f lg r rdy q room fine root =
@@ -75,6 +76,7 @@ log-step h card f lg r rdy q room fine root =
       same = λ c. buckets c (rawsame c);
     }
   where
-    buckets : (c : ℕ) → raw h (fill card (blanks card 1 (h .n)) (r ∷ [])) c ≡ raw h card c → bucket h (fill card (blanks card 1 (h .n)) (r ∷ [])) c ≡ bucket h card c
+    buckets : (c : ℕ) → raw h (fill card (blanks card 1 (h .n)) (r ∷ [])) c ≡ raw h card c
+        → bucket h (fill card (blanks card 1 (h .n)) (r ∷ [])) c ≡ bucket h card c
     buckets zero e = refl
     buckets (suc c) e = ap (λ z. andThen z soundBucket) e

@@ -33,7 +33,8 @@ pub record Fresh (h : Head) (card card' : List ℕ) (b : ℕ) (ks : List Entry) 
   pub others : (c : ℕ) → (c ≡ b → ⊥) → bucket h card' c ≡ bucket h card c
   pub same : (c : ℕ) (cs : List Entry) → bucket h card c ≡ some cs → bucket h card' c ≡ some cs
 
-pub fresh-bucket : (h : Head) (card : List ℕ) (f b : ℕ) (ks : List Entry) → Ready h card f → f ≤ b → 1 ≤ b → b ≤ h .n → length ks ≤ length (blanksOf h card b)
+pub fresh-bucket : (h : Head) (card : List ℕ) (f b : ℕ) (ks : List Entry) → Ready h card f → f ≤ b → 1 ≤ b → b ≤ h .n
+    → length ks ≤ length (blanksOf h card b)
     → Good (h .n) ks → soundBucket ks ≡ some ks → Fresh h card (into h b ks card) b ks
 unfolding soundBucket into
 fresh-bucket h card f b ks rdy fb lo hi room good sound =
@@ -84,5 +85,6 @@ join-bucket h card f b es new rdy lf q fits good sound =
     }
 
 -- so the card is ready from one past it
-pub ready-top : (h : Head) (card : List ℕ) → Bytes card → sizeOf h ≡ length card → ((c : ℕ) → 1 ≤ c → (es : List Entry) × (raw h card c ≡ some es)) → Ready h card (topUsed h card (h .n) + 1)
+pub ready-top : (h : Head) (card : List ℕ) → Bytes card → sizeOf h ≡ length card → ((c : ℕ) → 1 ≤ c → (es : List Entry) × (raw h card c ≡ some es))
+    → Ready h card (topUsed h card (h .n) + 1)
 ready-top h card bytes size whole = record { bytes = bytes; size = size; blank = λ c p q. top-raw h card c (omega arith) q; whole = whole }

@@ -52,7 +52,8 @@ pub log-same : (h : Head) (card card' : List ℕ) → ((j : ℕ) → j < 1 + h .
 unfolding log
 log-same h card card' f = ap (λ z. andThen z soundLog) (run-agree (h .n) card' card 1 (h .n) (λ j p q. f j (omega arith)))
 
-pub log-blanks-same : (h : Head) (card card' : List ℕ) → ((j : ℕ) → j < 1 + h .n → sectorAt card' j ≡ sectorAt card j) → logBlanks h card' ≡ logBlanks h card
+pub log-blanks-same : (h : Head) (card card' : List ℕ) → ((j : ℕ) → j < 1 + h .n → sectorAt card' j ≡ sectorAt card j)
+    → logBlanks h card' ≡ logBlanks h card
 unfolding logBlanks
 log-blanks-same h card card' f = blanks-agree card' card 1 (h .n) (λ j p q. f j (omega arith))
 

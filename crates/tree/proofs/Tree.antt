@@ -75,7 +75,8 @@ tree-fresh rd rd' g same (suc h) b lo hi tr = (
 )
 
 -- it holds what is the same on its keys
-pub tree-ext : (rd : Reading) (g g' : ℕ → Option Entry) (h b lo hi : ℕ) → ((x : ℕ) → lo ≤ x → x < hi → g x ≡ g' x) → Tree rd g h b lo hi → Tree rd g' h b lo hi
+pub tree-ext : (rd : Reading) (g g' : ℕ → Option Entry) (h b lo hi : ℕ) → ((x : ℕ) → lo ≤ x → x < hi → g x ≡ g' x) → Tree rd g h b lo hi
+    → Tree rd g' h b lo hi
 tree-ext rd g g' zero b lo hi same tr = (tr .0, tr .1, tr .2, λ x p q. tr .3 x p q ∙ same x p q)
 tree-ext rd g g' (suc h) b lo hi same tr = (
   tr .0,

@@ -67,7 +67,8 @@ unfolding only
 only-comm p q [] = refl
 only-comm p q (e ∷ es) = go (p e) (q e) refl refl (only-comm p q es)
   where
-    go : (a b : Bool) → p e ≡ a → q e ≡ b → only p (only q es) ≡ only q (only p es) → only p (keepIf b e (only q es)) ≡ only q (keepIf a e (only p es))
+    go : (a b : Bool) → p e ≡ a → q e ≡ b → only p (only q es) ≡ only q (only p es)
+        → only p (keepIf b e (only q es)) ≡ only q (keepIf a e (only p es))
     go true true x y ih = rw (x, y) (ap {B = List Entry} (λ z. e ∷ z) ih)
     go true false x y ih = rw y ih
     go false true x y ih = rw x ih

@@ -47,7 +47,8 @@ pub record Wrote (h : Head) (card card' : List ℕ) (g' : ℕ → Option Entry) 
   pub new-log : List Entry
   pub log-grows : (log h card' ≡ some (lg ++ new-log)) × Late s new-log × All (λ e. e .stamp ≤ s) new-log
 
-all-grows : (h : Head) (card card' : List ℕ) (s : ℕ) → ((c : ℕ) (cs : List Entry) → bucket h card c ≡ some cs → bucket h card' c ≡ some cs) → Grows s (bucket h card) (bucket h card')
+all-grows : (h : Head) (card card' : List ℕ) (s : ℕ) → ((c : ℕ) (cs : List Entry) → bucket h card c ≡ some cs → bucket h card' c ≡ some cs)
+    → Grows s (bucket h card) (bucket h card')
 all-grows h card card' s f c cs q = ([], f c cs q ∙ ap some (sym (append-nil cs)), late-nil s)
 
 pub is-root : (s b : ℕ) → isRoot (rootEntry s b) ≡ true
@@ -124,7 +125,8 @@ module _ (h : Head) (card : List ℕ) (g g' : ℕ → Option Entry) (k s : ℕ) 
         log-grows = (lg .logged, late-root s b, (omega arith, tt));
       }
 
-  one-state : (r : Rise) (p : Entry) → 1 ≤ length (logBlanks h (r .card)) → topUsed h card (h .n) < p .value → One h card (r .card) g' k 0 4294967296 s (r .fresh) p
+  one-state : (r : Rise) (p : Entry) → 1 ≤ length (logBlanks h (r .card)) → topUsed h card (h .n) < p .value
+      → One h card (r .card) g' k 0 4294967296 s (r .fresh) p
       → Wrote h card (fill (r .card) (logBlanks h (r .card)) (rootEntry s (p .value) ∷ [])) g' s (st .logs)
   one-state r p room nb o =
       let tp = tree-parts (bucket h (r .card)) g' k (p .value) 0 4294967296 (o .tree1) in
@@ -134,7 +136,8 @@ module _ (h : Head) (card : List ℕ) (g g' : ℕ → Option Entry) (k s : ℕ) 
       log-state (r .card) (r .fresh) (p .value) k (tp .0) (o .opened) room (tp .1) (o .tree1) (omega arith) nb
 
   -- a root above two buckets, in the fresh bucket f
-  two-state : (r : Rise) (p q : Entry) (f : ℕ) → 1 ≤ length (logBlanks h (r .card)) → r .fresh ≤ f → f ≤ h .n → 2 ≤ length (blanksOf h (r .card) f) → k + 2 ≤ f → topUsed h card (h .n) < f
+  two-state : (r : Rise) (p q : Entry) (f : ℕ) → 1 ≤ length (logBlanks h (r .card)) → r .fresh ≤ f → f ≤ h .n → 2 ≤ length (blanksOf h (r .card) f)
+      → k + 2 ≤ f → topUsed h card (h .n) < f
       → Two h card (r .card) g' k 0 4294967296 s (r .fresh) p q
       → Wrote h card (fill (into h f (p ∷ q ∷ []) (r .card)) (logBlanks h (into h f (p ∷ q ∷ []) (r .card))) (rootEntry s f ∷ [])) g' s (st .logs)
   two-state r p q f room rf fn fr kf nb o =
@@ -148,7 +151,13 @@ module _ (h : Head) (card : List ℕ) (g g' : ℕ → Option Entry) (k s : ℕ) 
       let fb = fresh-bucket h card1 (r .fresh) f es (o .opened .ready) rf (omega arith) fn fr
       (pr .2, (qr .2, tt)) (shape-sound true 0 4294967296 es sh) in
       let card2 = into h f es card1 in
-      let op : Open h card card2 s (f + 1) = record { ready = fb .ready; mark = (let m = o .opened .mark in (m .0, m .1, fb .same (m .0) (m .1) (m .2), m .3)); front = λ i lt. fb .front i lt ∙ o .opened .front i lt; same = λ c cs z. fb .same c cs (o .opened .same c cs z) } in
+      let m = o .opened .mark in
+      let op : Open h card card2 s (f + 1) = record {
+        ready = fb .ready;
+        mark = (m .0, m .1, fb .same (m .0) (m .1) (m .2), m .3);
+        front = λ i lt. fb .front i lt ∙ o .opened .front i lt;
+        same = λ c cs z. fb .same c cs (o .opened .same c cs z);
+      } in
       let tr : Tree (bucket h card2) g' (suc k) f 0 4294967296 = (
         es,
         fb .here,
@@ -167,7 +176,8 @@ module _ (h : Head) (card : List ℕ) (g g' : ℕ → Option Entry) (k s : ℕ) 
   abbrev End : Rise → List Entry → Type 0
   End r top = (rooted h s top r) .fresh ≤ h .n + 1 → logFull h (r .card) top ≡ false → Wrote h card ((rooted h s top r) .card) g' s (st .logs)
 
-  ending : (r : Rise) → topUsed h card (h .n) + 1 ≤ r .fresh → k + 1 ≤ topUsed h card (h .n) → All (New (topUsed h card (h .n) + 1)) (r .hand) → Outcome h card g g' k (st .last .value) 0 4294967296 s r → End r (r .hand)
+  ending : (r : Rise) → topUsed h card (h .n) + 1 ≤ r .fresh → k + 1 ≤ topUsed h card (h .n) → All (New (topUsed h card (h .n) + 1)) (r .hand)
+      → Outcome h card g g' k (st .last .value) 0 4294967296 s r → End r (r .hand)
   unfolding rooted logged oneBucket logFull blanksOf
   ending r ff tall nw (inl c) = subst (End r) (sym (c .0)) (λ cap room. closed-state h card g g' k s st s32 (r .card) (r .fresh) (c .1))
   ending r ff tall nw (inr (inl c)) = subst (End r) (sym (c .1))
@@ -207,7 +217,8 @@ unfolding checked refuseIf
 checked-accept h full r le free = rw (le-ltb (h .n + 1) (r .fresh) le, free)
 
 -- a write: what it leaves if it is accepted, and that it is if the fresh buckets needed remain
-pub write-step : (h : Head) (card : List ℕ) (g : ℕ → Option Entry) (k : ℕ) (st : State h card g k) (e : Entry) → Fine (h .n) e → (isIndex e ≡ false) × (isData e ≡ true)
+pub write-step : (h : Head) (card : List ℕ) (g : ℕ → Option Entry) (k : ℕ) (st : State h card g k) (e : Entry) → Fine (h .n) e
+    → (isIndex e ≡ false) × (isData e ≡ true)
     → (p : List Visit) × (path (bucket h card) 4294967295 (e .key) (h .n) (st .last .value) 0 ≡ some p)
     × ((new : List ℕ) → planOn h card e p ≡ accept new → Wrote h card new (upd g e) (e .stamp) (st .logs))
     × (freshAfter h card e p ≤ h .n + 1 → (new : List ℕ) × (planOn h card e p ≡ accept new))
