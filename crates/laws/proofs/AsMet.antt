@@ -121,6 +121,7 @@ unfolding blanksOf
 blanks-same h a b c ag = blanks-agree a b (base h c) (h .m) ag
 
 pub record AsMet (h : Head) (card now : List ℕ) (v : Visit) : Type 0 where
+  pub size : sizeOf h ≡ length now
   pub sectors : (j : ℕ) → base h (v .number) ≤ j → j < base h (v .number) + h .m → sectorAt now j ≡ sectorAt card j
   pub blanks : blanksOf h now (v .number) ≡ blanksOf h card (v .number)
   pub reads : bucket h now (v .number) ≡ some (v .entries)
@@ -144,6 +145,7 @@ as-met h card hq t x us v q w s es cap =
     (omega arith) cap (size, λ j p z. refl) in
     let c1 = (climb h s q r0) .card in
     record {
+      size = sm .0;
       sectors = sm .1;
       blanks = blanks-same h c1 card (v .number) (sm .1);
       reads = bucket-agree h c1 card (v .number) (sm .1) ∙ rd .0;

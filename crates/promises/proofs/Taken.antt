@@ -39,6 +39,10 @@ on-refuse h card e p gt =
     let r = climb h (e .stamp) p (record { hand = e ∷ []; fresh = topUsed h card (h .n) + 1; card = card }) in
     checked-refuse h (logFull h (r .card) (r .hand)) (rooted h (e .stamp) (r .hand) r) gt
 
+enough : (h : Head) (card : List ℕ) (e : Entry) (p : List Visit) → freshAfter h card e p ≤ h .n + 1 → needed h card e p ≤ remaining h card
+unfolding needed remaining freshAfter
+enough h card e p le = let within = used-within h card (h .n) in omega arith
+
 too-few : (h : Head) (card : List ℕ) (e : Entry) (p : List Visit) → h .n + 1 < freshAfter h card e p → remaining h card < needed h card e p
 unfolding needed remaining freshAfter
 too-few h card e p gt = let le = used-within h card (h .n) in omega arith
@@ -48,11 +52,14 @@ module _ (h : Head) (card : List ℕ) (g : ℕ → ℕ → Option Entry) (begin 
   p = write-walk h card g begin s ke e asks .0
 
   on-taken : TakenUnlessFull h card e (planOn h card e p)
-  on-taken =
-      ⊎-elim
-      (λ (le : freshAfter h card e p ≤ h .n + 1). inl (keeps-write h card g begin s ke e asks key above .1 le))
-      (λ (gt : h .n + 1 < freshAfter h card e p). inr (on-refuse h card e p gt, (p, write-walk h card g begin s ke e asks .1, too-few h card e p gt)))
-      (le-or-lt (freshAfter h card e p) (h .n + 1))
+  on-taken = (
+    p,
+    write-walk h card g begin s ke e asks .1,
+    ⊎-elim
+        (λ (le : freshAfter h card e p ≤ h .n + 1). inl (enough h card e p le, keeps-write h card g begin s ke e asks key above .1 le))
+        (λ (gt : h .n + 1 < freshAfter h card e p). inr (too-few h card e p gt, on-refuse h card e p gt))
+        (le-or-lt (freshAfter h card e p) (h .n + 1)),
+  )
 
   -- of the refusals 1 to 5 only 5 is left, for a strike where nothing stands
   plan-is : plan card e ≡ refuseIf (not (isPost e) & isNone (g latest (e .key))) 5 (planOn h card e p)

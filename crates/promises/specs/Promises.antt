@@ -79,11 +79,12 @@ NothingIsOverwritten =
     × ((j : ℕ) → zeros (sectorAt card j) ≡ false → sectorAt (called card k .card) j ≡ sectorAt card j)
     × ((is : List ℕ) × AllDifferent is × WrittenAt card is (called card k .card))
 
--- a write of e is accepted, or refused with 6 because it needs more fresh buckets than remain
+-- a write of e is accepted where the fresh buckets needed remain, and else refused with 6
 abbrev pub TakenUnlessFull : Head → List ℕ → Entry → Plan → Type 0
 TakenUnlessFull h card e plan =
-    ((new : List ℕ) × (plan ≡ accept new))
-    ⊎ ((plan ≡ refuse 6) × ((p : List Visit) × (walk h card latest (e .key) ≡ some p) × (remaining h card < needed h card e p)))
+    (p : List Visit) × (walk h card latest (e .key) ≡ some p)
+    × (((needed h card e p ≤ remaining h card) × ((new : List ℕ) × (plan ≡ accept new)))
+    ⊎ ((remaining h card < needed h card e p) × (plan ≡ refuse 6)))
 
 -- 5. Nothing is refused without cause: a post with a bib from 1 and a stamp above every accepted one is accepted
 -- unless too few fresh buckets are left; the log has always room.
