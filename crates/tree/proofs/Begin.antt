@@ -5,7 +5,7 @@ use lib.Dec.{eqb}
 use lib.ListN.{length}
 use mathlib.Core.Bool.{false, true, not}
 use mathlib.Core.List.{List, [], _∷_, _++_}
-use mathlib.Core.Logic.{inr, ⊎-elim}
+use mathlib.Core.Logic.{⊎-elim}
 use mathlib.Core.Option.{none, some, Option}
 use mathlib.Core.Path.{_∙_, _≡_, ap, ap₂, refl, subst, sym}
 use native.Mathlib.Nat.{mul-le-mul-left}
@@ -26,7 +26,6 @@ use Rattle.laws.proofs.Bytes.{Bytes, bytes-append, bytes-encode, bytes-le4, byt
 use Rattle.laws.proofs.Entries.{Fine, root-fine, index-fine, dummy-fine}
 use Rattle.laws.proofs.Codec.{length-encode}
 use Rattle.laws.proofs.Heads.{limits-hold, head-read, head-length}
-use Rattle.laws.proofs.Into.{block-out}
 use Rattle.laws.proofs.Lists.{upper}
 use Rattle.laws.proofs.Plans.{not-false, passed}
 use Rattle.laws.proofs.Run.{blanks-agree, decode-put, run-agree}
@@ -36,6 +35,7 @@ use Rattle.laws.proofs.Used.{run-blank}
 use Rattle.laws.proofs.Stamps.{stamp-blank}
 use Rattle.laws.proofs.Writes.{chain-top, format-chain}
 use Rattle.laws.proofs.Zeros.{zero-sector}
+use Rattle.laws.proofs.Into.{block-blanks}
 use Rattle.tree.proofs.Keeps.{Keeps, now-ends}
 use Rattle.tree.proofs.Ready.{Fresh, Ready, fresh-bucket}
 use Rattle.tree.proofs.State.{State}
@@ -154,8 +154,7 @@ module _ (h : Head) (lim : limits h ≡ true) (card : List ℕ) (size : sizeOf h
   fb1 = fresh-bucket h card2 1 1 (idx ∷ []) ready2 (omega arith) (omega arith) (omega arith) (subst (λ z. 1 ≤ length z) (sym (rooms2 1)) room1) (index-fine (h .n) n2, tt) sound-idx
 
   rooms3 : blanksOf h card3 2 ≡ blanksOf h card2 2
-  unfolding blanksOf base
-  rooms3 = blanks-agree card3 card2 (base h 2) (h .m) (λ j a b. block-out h card2 (ready2 .size) 1 (omega arith) (omega arith) (idx ∷ []) j (inr (omega arith)))
+  rooms3 = block-blanks h card2 (ready2 .size) 1 (omega arith) (omega arith) (idx ∷ []) 2 (omega arith) (λ z. omega arith)
 
   fb2 : Fresh h card3 card4 2 (dummy ∷ [])
   fb2 = fresh-bucket h card3 2 2 (dummy ∷ []) (fb1 .ready) (omega arith) (omega arith) (omega arith) (subst (λ z. 1 ≤ length z) (sym (rooms3 ∙ rooms2 2)) room2) (dummy-fine (h .n), tt) sound-dummy
