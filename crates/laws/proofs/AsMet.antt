@@ -1,11 +1,10 @@
--- On any card with a head: when a level of a write has its turn, the bucket of that level is as the walk found it.
-use mathlib.Core.Path.{_∙_, _≡_, ap, refl, sym}
-use mathlib.Core.Logic.{inl, inr, ⊎-elim}
+-- On any card with a head: when a level of a write has its turn, its bucket is as the walk met it, buckets not yet taken are blank, and head and log are as met.
+use mathlib.Core.Path.{_∙_, _≡_, ap, refl, sym, ap₂, subst}
 use mathlib.Core.Bool.{false, true}
 use mathlib.Core.Option.{some}
 use Prim.Native.Nat.{_+_, _-_, _/_, _<_, _≤_, suc, zero, ℕ}
 use native.Mathlib.Omega.{arith}
-use mathlib.Core.List.{List, [], _++_, _∷_}
+use mathlib.Core.List.{List, [], _++_, _∷_, append-assoc}
 use lib.ListN.{drop, length, take}
 use lib.Dec.{leb, ltb}
 use Rattle.rules.specs.declared.Entry.{Entry}
@@ -17,82 +16,79 @@ use Rattle.rules.specs.Rewrite.{Rise, into, kept, keyOf, limitOf, oneBucket, re
 use Rattle.rules.specs.Sector.{sectorAt}
 use Rattle.rules.specs.Walk.{Visit, walk}
 use Rattle.rules.specs.Write.{climb, place, placeIf, topUsed}
-use Rattle.laws.proofs.Tools.{le-or-lt}
 use Rattle.laws.proofs.Run.{Agree, blanks-agree, run-agree}
-use Rattle.laws.proofs.Buckets.{apart, bucket-raw, bucket-within}
+use Rattle.laws.proofs.Buckets.{bucket-raw, bucket-within, Clear, buckets-clear, front-clear, raw}
 use Rattle.laws.proofs.Fresh.{climb-mono, placeIf-fresh}
 use Rattle.laws.proofs.Heads.{head-facts}
-use Rattle.laws.proofs.Into.{block-out, block-size}
+use Rattle.laws.proofs.Into.{block-size, block-agree}
 use Rattle.laws.proofs.Paths.{Along, Apart, along-map, walk-once, walk-reads}
-use Rattle.laws.proofs.Used.{used-top}
+use Rattle.laws.proofs.Used.{used-top, top-raw}
+use Rattle.laws.proofs.Blanks.{upFrom, blanks-from}
 
--- bucket c is as on the card met
-module _ (h : Head) (s : ℕ) (met : List ℕ) (c : ℕ) (lc : 1 ≤ c) where
+-- the k sectors from i are as on the card met, where no bucket that is written has any of them
+module _ (h : Head) (s : ℕ) (met : List ℕ) (i k : ℕ) where
   abbrev Same : List ℕ → Type 0
-  Same card = (sizeOf h ≡ length card) × Agree card met (base h c) (h .m)
+  Same card = (sizeOf h ≡ length card) × Agree card met i k
 
-  into-same : (card : List ℕ) (b : ℕ) → 1 ≤ b → b ≤ h .n → (c ≡ b → ⊥) → (es : List Entry) → Same card → Same (into h b es card)
-  unfolding base
-  into-same card b lo hi ne es sm = (
-    block-size h card (sm .0) b lo hi es,
-    λ j p q. block-out h card (sm .0) b lo hi es j
-        (⊎-elim
-        (λ (le : b ≤ c). inr (omega (arith, apart (h .m) b c (let z : b ≡ c → ⊥ = λ e. ne (sym e) in strict b c le z) lo)))
-        (λ (gt : c < b). inl (omega (arith, apart (h .m) c b gt lc)))
-        (le-or-lt b c)) ∙ sm .1 j p q,
-  )
-    where
-      strict : (x y : ℕ) → x ≤ y → (x ≡ y → ⊥) → x < y
-      strict x y le n = ⊎-elim (λ (ge : y ≤ x). absurd (n (omega arith))) (λ (lt : x < y). lt) (le-or-lt y x)
+  -- the fresh buckets from f up to g
+  abbrev AllClear : ℕ → ℕ → Type 0
+  AllClear f g = (b : ℕ) → f ≤ b → b < g → Clear h i k b
 
-  one-same : (ks : List Entry) (r : Rise) → c < r .fresh → (oneBucket h s ks r) .fresh ≤ h .n + 1 → Same (r .card) → Same ((oneBucket h s ks r) .card)
+  into-same : (card : List ℕ) (b : ℕ) → 1 ≤ b → b ≤ h .n → Clear h i k b → (es : List Entry) → Same card → Same (into h b es card)
+  into-same card b lo hi cl es sm =
+      (block-size h card (sm .0) b lo hi es, λ j p q. block-agree h card (sm .0) b lo hi es i k cl j p q ∙ sm .1 j p q)
+
+  one-same : (ks : List Entry) (r : Rise) → 1 ≤ r .fresh → AllClear (r .fresh) ((oneBucket h s ks r) .fresh) → (oneBucket h s ks r) .fresh ≤ h .n + 1
+      → Same (r .card) → Same ((oneBucket h s ks r) .card)
   unfolding oneBucket
-  one-same ks r lt cap sm = into-same (r .card) (r .fresh) (omega arith) (omega arith) (λ e. omega arith) ks sm
+  one-same ks r lo cl cap sm = into-same (r .card) (r .fresh) lo (omega arith) (cl (r .fresh) (omega arith) (omega arith)) ks sm
 
-  two-same : (ls bs : List Entry) (r : Rise) → c < r .fresh → (twoBuckets h s ls bs r) .fresh ≤ h .n + 1 → Same (r .card) → Same ((twoBuckets h s ls bs r) .card)
+  two-same : (ls bs : List Entry) (r : Rise) → 1 ≤ r .fresh → AllClear (r .fresh) ((twoBuckets h s ls bs r) .fresh)
+      → (twoBuckets h s ls bs r) .fresh ≤ h .n + 1 → Same (r .card) → Same ((twoBuckets h s ls bs r) .card)
   unfolding twoBuckets
-  two-same ls bs r lt cap sm =
-      into-same (into h (r .fresh) ls (r .card)) (r .fresh + 1) (omega arith) (omega arith) (λ e. omega arith) bs
-      (into-same (r .card) (r .fresh) (omega arith) (omega arith) (λ e. omega arith) ls sm)
+  two-same ls bs r lo cl cap sm =
+      into-same (into h (r .fresh) ls (r .card)) (r .fresh + 1) (omega arith) (omega arith) (cl (r .fresh + 1) (omega arith) (omega arith)) bs
+      (into-same (r .card) (r .fresh) lo (omega arith) (cl (r .fresh) (omega arith) (omega arith)) ls sm)
 
-  renew-same : (td : ℕ) (ks : List Entry) (r : Rise) → c < r .fresh → (renew h s td ks r) .fresh ≤ h .n + 1 → Same (r .card) → Same ((renew h s td ks r) .card)
+  -- a step from the rise r to the rise to
+  abbrev Steps : Rise → Rise → Type 0
+  Steps r to = 1 ≤ r .fresh → AllClear (r .fresh) (to .fresh) → to .fresh ≤ h .n + 1 → Same (r .card) → Same (to .card)
+
+  renew-same : (td : ℕ) (ks : List Entry) (r : Rise) → Steps r (renew h s td ks r)
   unfolding renew
-  renew-same td ks r lt =
+  renew-same td ks r =
       let j = length ks - length ks / 2 in
-      elim (ltb (length ks) td) as (λ b. (if b (oneBucket h s ks r) (twoBuckets h s (take j ks) (drop j ks) r)) .fresh ≤ h .n + 1 → Same (r .card)
-      → Same ((if b (oneBucket h s ks r) (twoBuckets h s (take j ks) (drop j ks) r)) .card)) [
-        | true ↦ one-same ks r lt
-        | false ↦ two-same (take j ks) (drop j ks) r lt
-      ]
+      elim (ltb (length ks) td) as (λ b. Steps r (if b (oneBucket h s ks r) (twoBuckets h s (take j ks) (drop j ks) r)))
+      [ true ↦ one-same ks r | false ↦ two-same (take j ks) (drop j ks) r ]
 
-  -- another bucket
-  abbrev Other : Visit → Type 0
-  Other v = (1 ≤ v .number) × (v .number ≤ h .n) × (c ≡ v .number → ⊥)
+  -- a bucket of the path
+  abbrev Aside : Visit → Type 0
+  Aside v = (1 ≤ v .number) × (v .number ≤ h .n) × Clear h i k (v .number)
 
-  place-same : (v : Visit) (r : Rise) → Other v → c < r .fresh → (place h s v r) .fresh ≤ h .n + 1 → Same (r .card) → Same ((place h s v r) .card)
+  place-same : (v : Visit) (r : Rise) → Aside v → Steps r (place h s v r)
   unfolding place
-  place-same v r o lt =
+  place-same v r o =
       let ks = kept (keyOf (v .entries)) s (v .entries ++ r .hand) in
       let room : Rise = record { hand = []; fresh = r .fresh; card = into h (v .number) (r .hand) (r .card) } in
-      elim (leb (length (r .hand)) (length (blanksOf h (r .card) (v .number)))) as (λ b. (if b room (renew h s (limitOf h (v .entries)) ks r)) .fresh ≤ h .n + 1 → Same (r .card)
-      → Same ((if b room (renew h s (limitOf h (v .entries)) ks r)) .card)) [
-        | true ↦ λ cap sm. into-same (r .card) (v .number) (o .0) (o .1) (o .2) (r .hand) sm
-        | false ↦ renew-same (limitOf h (v .entries)) ks r lt
+      elim (leb (length (r .hand)) (length (blanksOf h (r .card) (v .number)))) as (λ b. Steps r (if b room (renew h s (limitOf h (v .entries)) ks r))) [
+        | true ↦ λ lo cl cap sm. into-same (r .card) (v .number) (o .0) (o .1) (o .2) (r .hand) sm
+        | false ↦ renew-same (limitOf h (v .entries)) ks r
       ]
 
-  placeIf-same : (v : Visit) (es : List Entry) (r : Rise) → Other v → c < r .fresh → (placeIf h s v es r) .fresh ≤ h .n + 1 → Same (r .card) → Same ((placeIf h s v es r) .card)
+  placeIf-same : (v : Visit) (es : List Entry) (r : Rise) → Aside v → Steps r (placeIf h s v es r)
   unfolding placeIf
-  placeIf-same v [] r o lt cap sm = sm
-  placeIf-same v (e ∷ es) r o lt cap sm = place-same v r o lt cap sm
+  placeIf-same v [] r o lo cl cap sm = sm
+  placeIf-same v (e ∷ es) r o lo cl cap sm = place-same v r o lo cl cap sm
 
-  pub climb-same : (p : List Visit) (r : Rise) → Along Other p → c < r .fresh → (climb h s p r) .fresh ≤ h .n + 1 → Same (r .card) → Same ((climb h s p r) .card)
+  pub climb-same : (p : List Visit) (r : Rise) → Along Aside p → Steps r (climb h s p r)
   unfolding climb
-  climb-same [] r o lt cap sm = sm
-  climb-same (v ∷ p) r o lt cap sm =
-      let b = climb h s p r in
-      let mo = climb-mono h s p r in
-      let pf = placeIf-fresh h s v (b .hand) b in
-      placeIf-same v (b .hand) b (o .0) (omega arith) cap (climb-same p r (o .1) lt (omega arith) sm)
+  climb-same [] r o lo cl cap sm = sm
+  climb-same (v ∷ p) r o lo cl cap sm =
+      let below = climb h s p r in
+      let up = climb-mono h s p r in
+      let on = placeIf-fresh h s v (below .hand) below in
+      placeIf-same v (below .hand) below (o .0) (omega arith) (λ b f g. cl b (omega arith) g) cap
+      (climb-same p r (o .1) lo (λ b f g. cl b f (omega arith)) (omega arith) sm)
 
 -- the lower part of a path
 along-right : (P : Visit → Type 0) (us p : List Visit) → Along P (us ++ p) → Along P p
@@ -116,30 +112,88 @@ blanks-same : (h : Head) (a b : List ℕ) (c : ℕ) → Agree a b (base h c) (h 
 unfolding blanksOf
 blanks-same h a b c ag = blanks-agree a b (base h c) (h .m) ag
 
+all-blank : (h : Head) (card : List ℕ) (c : ℕ) → raw h card c ≡ some [] → blanksOf h card c ≡ upFrom (base h c) (h .m)
+unfolding blanksOf
+all-blank h card c q =
+    let a : base h c + 0 ≡ base h c = omega arith in
+    let b : h .m - 0 ≡ h .m = omega arith in
+    blanks-from (h .n) card (base h c) (h .m) [] q ∙ ap₂ upFrom a b
+
+-- a write along the lower part q of a path, on the card that it meets
+module _ (h : Head) (card : List ℕ) (hq : headOf card ≡ some h) (t x : ℕ) (us q : List Visit) (w : walk h card t x ≡ some (us ++ q)) (s : ℕ) (es : List Entry) where
+  abbrev start : Rise
+  start = record { hand = es; fresh = topUsed h card (h .n) + 1; card = card }
+
+  abbrev done : Rise
+  done = climb h s q start
+
+  abbrev Reads : Visit → Type 0
+  Reads v = bucket h card (v .number) ≡ some (v .entries)
+
+  size : sizeOf h ≡ length card
+  size = head-facts card h hq .1
+
+  reads : Along Reads q
+  reads = along-right Reads us q (walk-reads h card t x (us ++ q) w)
+
+  -- sectors that lie apart from the buckets of q and from the fresh ones are as met
+  agrees : (i k : ℕ) → Along (λ v. Clear h i k (v .number)) q → ((b : ℕ) → topUsed h card (h .n) < b → b < done .fresh → Clear h i k b)
+      → done .fresh ≤ h .n + 1 → (sizeOf h ≡ length (done .card)) × Agree (done .card) card i k
+  agrees i k below new cap =
+      climb-same h s card i k q start
+      (along-map (λ v. Reads v × Clear h i k (v .number)) (λ v. (1 ≤ v .number) × (v .number ≤ h .n) × Clear h i k (v .number))
+      (λ v z. (bucket-raw h card (v .number) (v .entries) (z .0) .0, bucket-within h card (v .number) (v .entries) size (z .0), z .1)) q
+      (along-both Reads (λ v. Clear h i k (v .number)) q reads below))
+      (omega arith) (λ b f g. new b (omega arith) g) cap (size, λ j p z. refl)
+
+  -- those of a bucket c that is none of these
+  other : (c : ℕ) → 1 ≤ c → Along (λ v. c ≡ v .number → ⊥) q → ((b : ℕ) → topUsed h card (h .n) < b → b < done .fresh → c ≡ b → ⊥)
+      → done .fresh ≤ h .n + 1 → (sizeOf h ≡ length (done .card)) × Agree (done .card) card (base h c) (h .m)
+  other c lc below new =
+      agrees (base h c) (h .m)
+      (along-map (λ v. Reads v × (c ≡ v .number → ⊥)) (λ v. Clear h (base h c) (h .m) (v .number))
+      (λ v z. buckets-clear h c (v .number) lc (bucket-raw h card (v .number) (v .entries) (z .0) .0) (z .1)) q
+      (along-both Reads (λ v. c ≡ v .number → ⊥) q reads below))
+      (λ b f g. buckets-clear h c b lc (omega arith) (new b f g))
+
+  -- the head and the log are as met
+  pub front-met : done .fresh ≤ h .n + 1 → (j : ℕ) → j < 1 + h .n → sectorAt (done .card) j ≡ sectorAt card j
+  front-met cap j lt =
+      agrees 0 (1 + h .n) (along-map Reads (λ v. Clear h 0 (1 + h .n) (v .number)) (λ v z. front-clear h (v .number)) q reads) (λ b f g. front-clear h b) cap .1 j (omega arith) (omega arith)
+
+  -- a bucket not yet taken is blank, all m sectors in a row
+  pub fresh-met : (c : ℕ) → done .fresh ≤ c → c ≤ h .n → blanksOf h (done .card) c ≡ upFrom (base h c) (h .m)
+  fresh-met c lo hi =
+      let up = climb-mono h s q start in
+      let a = other c (omega arith)
+      (along-map Reads (λ v. c ≡ v .number → ⊥) (λ v z e. let le = used-top h card (v .number) (v .entries) size z in omega arith) q reads)
+      (λ b f g e. omega arith) (omega arith) in
+      blanks-same h (done .card) card c (a .1) ∙ all-blank h card c (top-raw h card c (omega arith) hi)
+
+-- what is known of the bucket of v when its turn comes
 pub record AsMet (h : Head) (card now : List ℕ) (v : Visit) : Type 0 where
+  pub size : sizeOf h ≡ length now
   pub sectors : (j : ℕ) → base h (v .number) ≤ j → j < base h (v .number) + h .m → sectorAt now j ≡ sectorAt card j
   pub blanks : blanksOf h now (v .number) ≡ blanksOf h card (v .number)
   pub reads : bucket h now (v .number) ≡ some (v .entries)
 
 -- v is a bucket on the path to x, q those below it: after the levels below, the bucket of v is as the walk found it
-pub as-met : (h : Head) (card : List ℕ) → headOf card ≡ some h → (t x : ℕ) (us : List Visit) (v : Visit) (q : List Visit) → walk h card t x ≡ some (us ++ (v ∷ q))
+pub as-met : (h : Head) (card : List ℕ) → headOf card ≡ some h → (t x : ℕ) (us : List Visit) (v : Visit) (q : List Visit)
+    → walk h card t x ≡ some (us ++ (v ∷ q))
     → (s : ℕ) (es : List Entry) → (climb h s q (record { hand = es; fresh = topUsed h card (h .n) + 1; card = card })) .fresh ≤ h .n + 1
     → AsMet h card ((climb h s q (record { hand = es; fresh = topUsed h card (h .n) + 1; card = card })) .card) v
 as-met h card hq t x us v q w s es cap =
     let size = head-facts card h hq .1 in
-    let r0 : Rise = record { hand = es; fresh = topUsed h card (h .n) + 1; card = card } in
-    let rd = along-right (λ z. bucket h card (z .number) ≡ some (z .entries)) us (v ∷ q) (walk-reads h card t x (us ++ (v ∷ q)) w) in
-    let ap1 = apart-right us (v ∷ q) (walk-once h card t x (us ++ (v ∷ q)) w) in
-    let lo = bucket-raw h card (v .number) (v .entries) (rd .0) .0 in
-    let top = used-top h card (v .number) (v .entries) size (rd .0) in
-    let sm = climb-same h s card (v .number) lo q r0
-    (along-map (λ z. (bucket h card (z .number) ≡ some (z .entries)) × (v .number ≡ z .number → ⊥)) (λ z. (1 ≤ z .number) × (z .number ≤ h .n) × (v .number ≡ z .number → ⊥))
-    (λ z y. (bucket-raw h card (z .number) (z .entries) (y .0) .0, bucket-within h card (z .number) (z .entries) size (y .0), y .1)) q
-    (along-both (λ z. bucket h card (z .number) ≡ some (z .entries)) (λ z. v .number ≡ z .number → ⊥) q (rd .1) (ap1 .0)))
-    (omega arith) cap (size, λ j p z. refl) in
-    let c1 = (climb h s q r0) .card in
+    let Reads : Visit → Type 0 = λ z. bucket h card (z .number) ≡ some (z .entries) in
+    let here = along-right Reads us (v ∷ q) (walk-reads h card t x (us ++ (v ∷ q)) w) .0 in
+    let away = apart-right us (v ∷ q) (walk-once h card t x (us ++ (v ∷ q)) w) .0 in
+    let top = used-top h card (v .number) (v .entries) size here in
+    let lower = subst (λ p. walk h card t x ≡ some p) (sym (append-assoc us (v ∷ []) q)) w in
+    let a = other h card hq t x (us ++ (v ∷ [])) q lower s es (v .number) (bucket-raw h card (v .number) (v .entries) here .0) away (λ b f g e. omega arith) cap in
+    let now = (climb h s q (record { hand = es; fresh = topUsed h card (h .n) + 1; card = card })) .card in
     record {
-      sectors = sm .1;
-      blanks = blanks-same h c1 card (v .number) (sm .1);
-      reads = bucket-agree h c1 card (v .number) (sm .1) ∙ rd .0;
+      size = a .0;
+      sectors = a .1;
+      blanks = blanks-same h now card (v .number) (a .1);
+      reads = bucket-agree h now card (v .number) (a .1) ∙ here;
     }

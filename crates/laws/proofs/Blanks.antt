@@ -19,7 +19,8 @@ abbrev pub upFrom : ℕ → ℕ → List ℕ
 upFrom i zero = []
 upFrom i (suc c) = i ∷ upFrom (suc i) c
 
-pub blanks-from : (n : ℕ) (card : List ℕ) (i c : ℕ) (es : List Entry) → run n card i c ≡ some es → blanks card i c ≡ upFrom (i + length es) (c - length es)
+pub blanks-from : (n : ℕ) (card : List ℕ) (i c : ℕ) (es : List Entry) → run n card i c ≡ some es
+    → blanks card i c ≡ upFrom (i + length es) (c - length es)
 unfolding run
 blanks-from n card i zero es q = blanks-none card i ∙ ap (λ k. upFrom (i + length es) k) (let z : 0 ≡ 0 - length es = omega arith in z)
 blanks-from n card i (suc c) es q =

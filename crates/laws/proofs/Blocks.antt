@@ -12,15 +12,11 @@ use Rattle.rules.specs.declared.Sector.the-variants.{Blank, Held}
 use Rattle.rules.specs.Bucket.{also, blanks, onto, run}
 use Rattle.rules.specs.Plain.{zeros}
 use Rattle.rules.specs.Rewrite.{fill}
-use Rattle.rules.specs.Sector.{decode, encode, legal, put, sectorAt}
+use Rattle.rules.specs.Sector.{decode, encode, put, sectorAt}
 use Rattle.laws.proofs.Sectors.{length-put, sector-put-other, sector-put-same}
-use Rattle.laws.proofs.Codec.{Fits, blank-zeros, decode-encode, held-zeros, length-encode}
+use Rattle.laws.proofs.Codec.{blank-zeros, decode-encode, held-zeros, length-encode}
 use Rattle.laws.proofs.Run.{Agree, agree-put, blanks-agree, onto-inv, run-agree}
-
--- every entry of a list can be written and read back
-abbrev pub Good : ℕ → List Entry → Type 0
-Good n [] = Unit {0}
-Good n (e ∷ es) = Fits e × (legal n e ≡ true) × Good n es
+use Rattle.laws.proofs.Entries.{Good}
 
 -- P holds of every sector number of the list
 abbrev pub Each : (ℕ → Type 0) → List ℕ → Type 0
@@ -32,7 +28,8 @@ each-map P Q f [] a = tt
 each-map P Q f (i ∷ is) a = (f i (a .0), each-map P Q f is (a .1))
 
 -- what the blanks of a run of sectors are
-pub blanks-each : (P : ℕ → Type 0) (card : List ℕ) (i c : ℕ) → ((j : ℕ) → i ≤ j → j < i + c → zeros (sectorAt card j) ≡ true → P j) → Each P (blanks card i c)
+pub blanks-each : (P : ℕ → Type 0) (card : List ℕ) (i c : ℕ) → ((j : ℕ) → i ≤ j → j < i + c → zeros (sectorAt card j) ≡ true → P j)
+    → Each P (blanks card i c)
 unfolding blanks
 blanks-each P card i zero f = tt
 blanks-each P card i (suc c) f =
@@ -90,11 +87,11 @@ fill-run n card i (suc c) es (e ∷ new) good lies fits q =
     let be = blanks-agree card1 card (suc i) c ag in
     let ft : suc (length new) ≤ suc (length (blanks card (suc i) c)) = rw z at fits in
     let bl = ap length be in
-    let ih = fill-run n card1 (suc i) c [] new (good .2) (omega arith) (omega arith) (run-agree n card1 card (suc i) c ag ∙ b .2) in
+    let ih = fill-run n card1 (suc i) c [] new (good .1) (omega arith) (omega arith) (run-agree n card1 card (suc i) c ag ∙ b .2) in
     let oth = fill-other card1 (blanks card1 (suc i) c) new i
     (blanks-each (Lies card1) card1 (suc i) c (λ j p r y. omega arith)) (blanks-each (λ k. i ≡ k → ⊥) card1 (suc i) c (λ j p r y u. omega arith)) in
     let hd : decode n (sectorAt (fill card1 (blanks card1 (suc i) c) new) i) ≡ Held e
-    = ap (decode n) (oth ∙ sector-put-same card i (encode e) (length-encode e) (omega arith)) ∙ decode-encode n e (good .0) (good .1) in
+    = ap (decode n) (oth ∙ sector-put-same card i (encode e) (length-encode e) (omega arith)) ∙ decode-encode n e (good .0 .0) (good .0 .1) in
     rw (z, sym be, b .1) (ap₂ onto hd ih))
     (λ (b : (x : Entry) × (xs : List Entry) × (decode n (sectorAt card i) ≡ Held x) × (es ≡ x ∷ xs) × (run n card (suc i) c ≡ some xs)).
     let z = blanks-no card i c (held-zeros n (sectorAt card i) (b .0) (b .2)) in

@@ -1,6 +1,6 @@
 -- What a sound bucket is, what is read of it by its sectors, and where the buckets lie.
 use mathlib.Core.Path.{_∙_, _≡_, ap, refl, sym}
-use mathlib.Core.Logic.{⊎-elim}
+use mathlib.Core.Logic.{⊎-elim, inl, inr, _⊎_}
 use mathlib.Core.Bool.{Bool, true}
 use mathlib.Core.Option.{Option, none, some}
 use Prim.Native.Nat.{_*_, _+_, _-_, _<_, _≤_, suc, zero, ℕ}
@@ -39,11 +39,6 @@ pub sound-every : (x : Entry) (es : List Entry) → soundBucket (x ∷ es) ≡ s
 unfolding soundBucket
 sound-every x es eq = guard-true (every (joins x) (x ∷ es)) (x ∷ es) (x ∷ es) eq .0
 
-pub sound-snoc : (x : Entry) (es : List Entry) (e : Entry) → soundBucket (x ∷ es) ≡ some (x ∷ es) → joins x e ≡ true
-    → soundBucket (x ∷ (es ++ (e ∷ []))) ≡ some (x ∷ (es ++ (e ∷ [])))
-unfolding soundBucket
-sound-snoc x es e s j = rw (every-snoc (joins x) (x ∷ es) e (sound-every x es s) j)
-
 -- the sectors of a bucket lie in the card, and apart from those of another
 pub bucket-in : (m n b : ℕ) → 1 ≤ b → b ≤ n → m * (b - 1) + m ≤ n * m
 bucket-in m n b lo hi =
@@ -65,7 +60,8 @@ bucket-raw h card (suc b) es q =
     let e = sound-inv (inv .0) es (inv .2) in
     (omega arith, inv .1 ∙ ap some e, ap soundBucket (sym e) ∙ inv .2)
 
-pub raw-bucket : (h : Head) (card : List ℕ) (b : ℕ) (es : List Entry) → 1 ≤ b → raw h card b ≡ some es → soundBucket es ≡ some es → bucket h card b ≡ some es
+pub raw-bucket : (h : Head) (card : List ℕ) (b : ℕ) (es : List Entry) → 1 ≤ b → raw h card b ≡ some es → soundBucket es ≡ some es
+    → bucket h card b ≡ some es
 unfolding bucket
 raw-bucket h card zero es lo r s = absurd (omega arith)
 raw-bucket h card (suc b) es lo r s = rw r s
@@ -102,3 +98,20 @@ run-length n card i (suc c) es q =
 
 pub bucket-length : (h : Head) (card : List ℕ) (b : ℕ) (es : List Entry) → bucket h card b ≡ some es → length es ≤ h .m
 bucket-length h card b es q = run-length (h .n) card (base h b) (h .m) es (bucket-raw h card b es q .1)
+
+-- the k sectors from i lie apart from bucket b
+abbrev pub Clear : Head → ℕ → ℕ → ℕ → Type 0
+Clear h i k b = (i + k ≤ base h b) ⊎ (base h b + h .m ≤ i)
+
+-- as those of another bucket do, and those of the head and the log
+pub buckets-clear : (h : Head) (c b : ℕ) → 1 ≤ c → 1 ≤ b → (c ≡ b → ⊥) → Clear h (base h c) (h .m) b
+unfolding base
+buckets-clear h c b lc lb ne =
+    ⊎-elim
+    (λ (le : b ≤ c). inr (omega (arith, apart (h .m) b c (omega arith) lb)))
+    (λ (gt : c < b). inl (omega (arith, apart (h .m) c b gt lc)))
+    (le-or-lt b c)
+
+pub front-clear : (h : Head) (b : ℕ) → Clear h 0 (1 + h .n) b
+unfolding base
+front-clear h b = inl (omega arith)

@@ -16,8 +16,8 @@ use Rattle.rules.specs.Sector.{decode, encode, fields, le4, legal, put, sectorA
 use Rattle.laws.proofs.Tools.{and-true, none-some}
 use Rattle.laws.proofs.Codec.{Fits}
 use Rattle.laws.proofs.Run.{onto-inv}
-use Rattle.laws.proofs.Blocks.{Good}
-use Rattle.laws.proofs.Lists.{All}
+use Rattle.laws.proofs.Entries.{Good}
+use Rattle.laws.proofs.Zeros.{zeros-get}
 
 abbrev pub Bytes : List ℕ → Type 0
 Bytes [] = Unit {0}
@@ -72,7 +72,7 @@ pub bytes-fill : (n : ℕ) (card : List ℕ) (is : List ℕ) (new : List Entry) 
 unfolding fill
 bytes-fill n card is [] a g = a
 bytes-fill n card [] (e ∷ new) a g = a
-bytes-fill n card (i ∷ is) (e ∷ new) a g = bytes-fill n (put card i (encode e)) is new (bytes-put card i (encode e) a (bytes-encode e (g .0))) (g .2)
+bytes-fill n card (i ∷ is) (e ∷ new) a g = bytes-fill n (put card i (encode e)) is new (bytes-put card i (encode e) a (bytes-encode e (g .0 .0))) (g .1)
 
 pub fields-fit : (s : List ℕ) → Bytes s → Fits (fields s)
 unfolding fields word
@@ -89,13 +89,15 @@ pub held-inv : (n : ℕ) (s : List ℕ) (e : Entry) → decode n s ≡ Held e �
 unfolding decode
 held-inv n s e q = go (zeros s) q
   where
-    go2 : (b : Bool) → zeros (take 3 (drop 1 s)) & legal n (fields s) ≡ b → if b (Held (fields s)) Damaged ≡ Held e → (fields s ≡ e) × (legal n e ≡ true)
+    go2 : (b : Bool) → zeros (take 3 (drop 1 s)) & legal n (fields s) ≡ b → if b (Held (fields s)) Damaged ≡ Held e
+        → (fields s ≡ e) × (legal n e ≡ true)
     go2 true t z =
         let fe : fields s ≡ e = cc in
         (fe, ap (legal n) (sym fe) ∙ and-true (zeros (take 3 (drop 1 s))) (legal n (fields s)) t .1)
     go2 false t z = (cc, cc)
 
-    go : (b : Bool) → if b Blank (if (zeros (take 3 (drop 1 s)) & legal n (fields s)) (Held (fields s)) Damaged) ≡ Held e → (fields s ≡ e) × (legal n e ≡ true)
+    go : (b : Bool) → if b Blank (if (zeros (take 3 (drop 1 s)) & legal n (fields s)) (Held (fields s)) Damaged) ≡ Held e
+        → (fields s ≡ e) × (legal n e ≡ true)
     go true z = (cc, cc)
     go false z = go2 (zeros (take 3 (drop 1 s)) & legal n (fields s)) refl z
 
@@ -109,23 +111,13 @@ run-good n card b i (suc c) es q =
     (λ (v : (x : Entry) × (xs : List Entry) × (decode n (sectorAt card i) ≡ Held x) × (es ≡ x ∷ xs) × (run n card (suc i) c ≡ some xs)).
     let hi = held-inv n (sectorAt card i) (v .0) (v .2) in
     subst (Good n) (sym (v .3)) (
-      subst Fits (hi .0) (fields-fit (sectorAt card i) (bytes-take 16 (drop (16 * i) card) (bytes-drop (16 * i) card b))),
-      hi .1,
+      (subst Fits (hi .0) (fields-fit (sectorAt card i) (bytes-take 16 (drop (16 * i) card) (bytes-drop (16 * i) card b))), hi .1),
       run-good n card b (suc i) c (v .1) (v .4),
     ))
     (onto-inv (decode n (sectorAt card i)) (run n card (suc i) c) es q)
 
-abbrev pub Fine : ℕ → Entry → Type 0
-Fine n e = Fits e × (legal n e ≡ true)
-
-pub good-all : (n : ℕ) (es : List Entry) → Good n es → All (Fine n) es
-good-all n [] g = tt
-good-all n (e ∷ es) g = ((g .0, g .1), good-all n es (g .2))
-
-pub all-good : (n : ℕ) (es : List Entry) → All (Fine n) es → Good n es
-all-good n [] g = tt
-all-good n (e ∷ es) g = (g .0 .0, g .0 .1, all-good n es (g .1))
-
-pub zip-fine : (n : ℕ) (Q : Entry → Type 0) (es : List Entry) → Good n es → All Q es → All (λ d. Fine n d × Q d) es
-zip-fine n Q [] g a = tt
-zip-fine n Q (e ∷ es) g a = (((g .0, g .1), a .0), zip-fine n Q es (g .2) (a .1))
+pub zero-bytes : (xs : List ℕ) → zeros xs ≡ true → Bytes xs
+unfolding zeros
+zero-bytes [] z = tt
+zero-bytes (zero ∷ xs) z = (omega arith, zero-bytes xs z)
+zero-bytes (suc x ∷ xs) z = absurd (let a = zeros-get (suc x ∷ xs) 0 z in omega arith)

@@ -63,7 +63,8 @@ blank-zeros n s q = go (zeros s) refl q
     go2 true e = let z : _≡_ {A = ℕ} 0 1 = cc in omega arith
     go2 false e = let z : _≡_ {A = ℕ} 0 1 = cc in omega arith
 
-    go : (b : Bool) → zeros s ≡ b → if b Blank (if (zeros (take 3 (drop 1 s)) & legal n (fields s)) (Held (fields s)) Damaged) ≡ Blank → zeros s ≡ true
+    go : (b : Bool) → zeros s ≡ b → if b Blank (if (zeros (take 3 (drop 1 s)) & legal n (fields s)) (Held (fields s)) Damaged) ≡ Blank
+        → zeros s ≡ true
     go true z e = z
     go false z e = absurd (go2 (zeros (take 3 (drop 1 s)) & legal n (fields s)) e)
 

@@ -88,7 +88,8 @@ fstep-swap true false e d r lt = refl
 fstep-swap false true e d r lt = refl
 fstep-swap false false e d r lt = refl
 
-cstep-swap : (x : ℕ) (e d : Entry) (r : Option Entry) → (e .key < d .key) → cstep (eqb (e .key) x) e (cstep (eqb (d .key) x) d r) ≡ cstep (eqb (d .key) x) d (cstep (eqb (e .key) x) e r)
+cstep-swap : (x : ℕ) (e d : Entry) (r : Option Entry) → (e .key < d .key)
+    → cstep (eqb (e .key) x) e (cstep (eqb (d .key) x) d r) ≡ cstep (eqb (d .key) x) d (cstep (eqb (e .key) x) e r)
 cstep-swap x e d r lt =
     ⊎-elim
     (λ q. rw (ne-eqb (d .key) x (λ z. omega arith)))

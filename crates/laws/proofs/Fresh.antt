@@ -56,15 +56,6 @@ freshAfter h card e p =
     let r = climb h (e .stamp) p (record { hand = e ∷ []; fresh = topUsed h card (h .n) + 1; card = card }) in
     (rooted h (e .stamp) (r .hand) r) .fresh
 
-pub fresh-after : (h : Head) (card : List ℕ) (e : Entry) (p : List Visit) → topUsed h card (h .n) + 1 ≤ freshAfter h card e p
-unfolding freshAfter
-fresh-after h card e p =
-    let r0 : Rise = record { hand = e ∷ []; fresh = topUsed h card (h .n) + 1; card = card } in
-    let up = climb-mono h (e .stamp) p r0 in
-    let r = climb h (e .stamp) p r0 in
-    let top = rooted-fresh h (e .stamp) (r .hand) r in
-    omega arith
-
 -- an index entry in hand leads to bucket f or a later one
 abbrev pub New : ℕ → Entry → Type 0
 New f d = isIndex d ≡ true → f ≤ d .value
@@ -84,7 +75,8 @@ place-new h s f v r le =
     elim (leb (length (r .hand)) (length (blanksOf h (r .card) (v .number)))) as (λ b. All (New f) ((if b room (renew h s (limitOf h (v .entries)) ks r)) .hand))
     [ true ↦ tt | false ↦ renew-new h s f (limitOf h (v .entries)) ks r le ]
 
-placeIf-new : (h : Head) (s f : ℕ) (v : Visit) (es : List Entry) (r : Rise) → f ≤ r .fresh → All (New f) (r .hand) → All (New f) ((placeIf h s v es r) .hand)
+placeIf-new : (h : Head) (s f : ℕ) (v : Visit) (es : List Entry) (r : Rise) → f ≤ r .fresh → All (New f) (r .hand)
+    → All (New f) ((placeIf h s v es r) .hand)
 unfolding placeIf
 placeIf-new h s f v [] r le a = a
 placeIf-new h s f v (e ∷ es) r le a = place-new h s f v r le

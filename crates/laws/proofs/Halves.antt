@@ -1,4 +1,4 @@
--- What the entries of a bucket say, for a data and an index bucket alike.
+-- A list in key order: its two halves, and what is kept of it.
 use mathlib.Core.Path.{_∙_, _≡_, ap, refl, sym}
 use mathlib.Core.Logic.{⊎-elim}
 use mathlib.Core.Bool.{Bool, false, not, true}
@@ -201,3 +201,16 @@ kept-all P hk s es a = only-all P (λ e. not (eqb (e .kind) 2) or eqb (e .key) h
 pub kept-sorted : (hk s : ℕ) (es : List Entry) → Sorted (kept hk s es)
 unfolding kept
 kept-sorted hk s es = only-sorted (λ e. not (eqb (e .kind) 2) or eqb (e .key) hk or eqb (e .stamp) s) (lastCopies es) (copies-sorted es)
+
+-- a list in key order, taken apart before d
+all-at : (P : Entry → Type 0) (ls : List Entry) (d : Entry) (bs : List Entry) → All P (ls ++ (d ∷ bs)) → P d
+all-at P [] d bs a = a .0
+all-at P (e ∷ ls) d bs a = all-at P ls d bs (a .1)
+
+pub sorted-low : (ls : List Entry) (d : Entry) (bs : List Entry) → Sorted (ls ++ (d ∷ bs)) → All (λ e. e .key < d .key) ls
+sorted-low [] d bs s = tt
+sorted-low (e ∷ ls) d bs s = (all-at (λ c. e .key < c .key) ls d bs (s .0), sorted-low ls d bs (s .1))
+
+pub sorted-high : (ls : List Entry) (d : Entry) (bs : List Entry) → Sorted (ls ++ (d ∷ bs)) → All (λ e. d .key < e .key) bs
+sorted-high [] d bs s = s .0
+sorted-high (e ∷ ls) d bs s = sorted-high ls d bs (s .1)

@@ -1,18 +1,18 @@
 -- What a head that is read says of its card: the limits and the length; where buckets and log lie on such a card.
-use mathlib.Core.Path.{_≡_, sym, subst, ap₂}
-use mathlib.Core.Bool.{true}
+use mathlib.Core.Path.{_≡_, sym, subst, ap₂, refl}
+use mathlib.Core.Bool.{true, false}
 use mathlib.Core.Option.{some}
 use mathlib.Core.List.{List}
-use Prim.Native.Nat.{ℕ, suc, _+_, _*_, _-_, _≤_}
+use Prim.Native.Nat.{ℕ, suc, _+_, _*_, _-_, _≤_, _%_, _/_}
 use native.Mathlib.Nat.{mul-le-mul-left, mul-add, mul-suc, mul-comm}
 use native.Mathlib.Omega.{arith}
 use lib.ListN.{length, getD}
 use lib.Dec.{leb, eqb}
-use borrow.Author.Tests.{leb-true, eqb-true}
+use borrow.Author.Tests.{leb-true, eqb-true, eq-eqb}
 use Rattle.rules.specs.declared.Head.{Head}
-use Rattle.rules.specs.Plain.{_&_, within}
-use Rattle.rules.specs.Sector.{sectorAt, word}
-use Rattle.rules.specs.Layout.{limits, sizeOf, headFields, headIn, headOf, base}
+use Rattle.rules.specs.Plain.{_&_, within, zeros}
+use Rattle.rules.specs.Sector.{sectorAt, word, le4}
+use Rattle.rules.specs.Layout.{limits, sizeOf, headFields, headIn, headOf, base, headBytes}
 use Rattle.laws.proofs.Tools.{and-true, guard-true}
 
 pub record Lim (h : Head) : Type 0 where
@@ -81,3 +81,22 @@ log-fits h card long = let more : h .n * (h .m + 1) ≡ h .n * h .m + h .n * 1 =
 pub head-same : (card card' : List ℕ) → sectorAt card' 0 ≡ sectorAt card 0 → length card' ≡ length card → headOf card' ≡ headOf card
 unfolding headOf
 head-same card card' s l = ap₂ headIn s l
+
+pub head-digits : (x : ℕ) → x ≤ 4096 → x % 256 + 256 * (x / 256 % 256) + 65536 * (x / 65536 % 256) + 16777216 * (x / 16777216) ≡ x
+head-digits x h = omega arith
+
+-- the head's bytes are read back
+pub head-read : (h : Head) (len : ℕ) → limits h ≡ true → h .n ≤ 4096 → len ≡ sizeOf h → headIn (headBytes h 0) len ≡ some h
+unfolding headIn headBytes headFields word le4 zeros
+head-read h len l n4 e =
+    let f : headFields (headBytes h 0) ≡ h = λ i. record { m = h .m; td = h .td; ti = h .ti; n = head-digits (h .n) n4 i } in
+    rw (f, l, eq-eqb len (sizeOf h) e)
+
+-- format
+pub head-length : (h : Head) → length (headBytes h 0) ≡ 16
+unfolding headBytes le4
+head-length h = refl
+
+pub head-says : (h : Head) → zeros (headBytes h 0) ≡ false
+unfolding headBytes zeros
+head-says h = refl

@@ -14,10 +14,11 @@ use Rattle.rules.specs.Layout.{base, sizeOf}
 use Rattle.rules.specs.Plain.{andThen, zeros}
 use Rattle.rules.specs.Rewrite.{into}
 use Rattle.rules.specs.Sector.{sectorAt}
-use Rattle.laws.proofs.Tools.{eq-or-ne, le-or-lt, true-false}
-use Rattle.laws.proofs.Run.{run-agree}
-use Rattle.laws.proofs.Buckets.{apart, bucket-in, raw}
-use Rattle.laws.proofs.Blocks.{Each, Good, Lies, blanks-each, fill-other, fill-run, length-fill}
+use Rattle.laws.proofs.Tools.{eq-or-ne, true-false}
+use Rattle.laws.proofs.Run.{run-agree, Agree, blanks-agree}
+use Rattle.laws.proofs.Buckets.{bucket-in, raw, Clear, buckets-clear}
+use Rattle.laws.proofs.Blocks.{Each, Lies, blanks-each, fill-other, fill-run, length-fill}
+use Rattle.laws.proofs.Entries.{Good}
 
 -- no sector that is written is written again
 abbrev pub Stays : List ℕ → List ℕ → Type 0
@@ -40,7 +41,8 @@ module _ (h : Head) (card : List ℕ) (size : sizeOf h ≡ length card) (b : ℕ
   unfolding into
   block-size = size ∙ sym (length-fill card (blanksOf h card b) new here-lies)
 
-  pub block-raw : (es : List Entry) → Good (h .n) new → length new ≤ length (blanksOf h card b) → raw h card b ≡ some es → raw h (into h b new card) b ≡ some (es ++ new)
+  pub block-raw : (es : List Entry) → Good (h .n) new → length new ≤ length (blanksOf h card b) → raw h card b ≡ some es
+      → raw h (into h b new card) b ≡ some (es ++ new)
   unfolding into blanksOf sizeOf base
   block-raw es good fits eq = fill-run (h .n) card (base h b) (h .m) es new good (omega (arith, bucket-in (h .m) (h .n) b lo hi)) fits eq
 
@@ -52,18 +54,20 @@ module _ (h : Head) (card : List ℕ) (size : sizeOf h ≡ length card) (b : ℕ
   pub block-out : (j : ℕ) → (j < base h b) ⊎ (base h b + h .m ≤ j) → sectorAt (into h b new card) j ≡ sectorAt card j
   block-out j out = block-sector j (here-each (λ i. j ≡ i → ⊥) (λ i p q z e. ⊎-elim (λ (l : j < base h b). omega arith) (λ (g : base h b + h .m ≤ j). omega arith) out))
 
+  pub block-agree : (i k : ℕ) → Clear h i k b → Agree (into h b new card) card i k
+  block-agree i k cl j p q = block-out j (⊎-elim (λ (l : i + k ≤ base h b). inl (omega arith)) (λ (g : base h b + h .m ≤ i). inr (omega arith)) cl)
+
+  -- another bucket is as it was, its blanks too
   pub block-else : (c : ℕ) → 1 ≤ c → (c ≡ b → ⊥) → raw h (into h b new card) c ≡ raw h card c
-  unfolding base
-  block-else c lc ne =
-      run-agree (h .n) (into h b new card) card (base h c) (h .m)
-      (λ j p q. block-out j
-      (⊎-elim
-      (λ (le : b ≤ c). inr (omega (arith, apart (h .m) b c (omega arith) lo)))
-      (λ (gt : c < b). inl (omega (arith, apart (h .m) c b gt lc)))
-      (le-or-lt b c)))
+  block-else c lc ne = run-agree (h .n) (into h b new card) card (base h c) (h .m) (block-agree (base h c) (h .m) (buckets-clear h c b lc lo ne))
+
+  pub block-blanks : (c : ℕ) → 1 ≤ c → (c ≡ b → ⊥) → blanksOf h (into h b new card) c ≡ blanksOf h card c
+  unfolding blanksOf
+  block-blanks c lc ne = blanks-agree (into h b new card) card (base h c) (h .m) (block-agree (base h c) (h .m) (buckets-clear h c b lc lo ne))
 
   pub block-whole : (es : List Entry) → Good (h .n) new → length new ≤ length (blanksOf h card b) → raw h card b ≡ some es
-      → ((c : ℕ) → 1 ≤ c → (cs : List Entry) × (raw h card c ≡ some cs)) → (c : ℕ) → 1 ≤ c → (cs : List Entry) × (raw h (into h b new card) c ≡ some cs)
+      → ((c : ℕ) → 1 ≤ c → (cs : List Entry) × (raw h card c ≡ some cs)) → (c : ℕ) → 1 ≤ c
+      → (cs : List Entry) × (raw h (into h b new card) c ≡ some cs)
   block-whole es good fits eq w c lc =
       ⊎-elim
       (λ (e : c ≡ b). (es ++ new, ap (raw h (into h b new card)) e ∙ block-raw es good fits eq))

@@ -1,11 +1,13 @@
 pub mod Tools
 pub mod Sectors
+pub mod Zeros
 pub mod Codec
 pub mod Run
 pub mod Heads
 pub mod Lists
 pub mod Copies
 pub mod Halves
+pub mod Entries
 pub mod Buckets
 pub mod Blocks
 pub mod Blanks

@@ -115,9 +115,9 @@ pub all-map : (P Q : Entry → Type 0) → ((e : Entry) → P e → Q e) → (es
 all-map P Q f [] a = tt
 all-map P Q f (e ∷ es) a = (f e (a .0), all-map P Q f es (a .1))
 
-pub all-any : (P : Entry → Type 0) → ((e : Entry) → P e) → (es : List Entry) → All P es
-all-any P f [] = tt
-all-any P f (e ∷ es) = (f e, all-any P f es)
+pub all-both : (P Q : Entry → Type 0) (es : List Entry) → All P es → All Q es → All (λ e. P e × Q e) es
+all-both P Q [] a b = tt
+all-both P Q (e ∷ es) a b = ((a .0, b .0), all-both P Q es (a .1) (b .1))
 
 pub all-append : (P : Entry → Type 0) (xs ys : List Entry) → All P xs → All P ys → All P (xs ++ ys)
 all-append P [] ys a b = b
@@ -265,3 +265,13 @@ upper-min x (e ∷ es) k hi =
     (λ le. rw (le-ltb x (e .key) le) ih)
     (λ gt. rw (lt-ltb x (e .key) gt) (omega arith))
     (le-or-lt (e .key) x)
+
+pub last-all : (P : Entry → Type 0) (es : List Entry) (d : Entry) → All P es → lastOf es ≡ some d → P d
+unfolding lastOf
+last-all P [] d a q = absurd (none-some q)
+last-all P (e ∷ []) d a q = let ed : e ≡ d = cc in subst P ed (a .0)
+last-all P (e ∷ c ∷ es) d a q = last-all P (c ∷ es) d (a .1) q
+
+pub copy-all : (P : Entry → Type 0) (x : ℕ) (es : List Entry) (d : Entry) → All P es → copyOf x es ≡ some d → P d
+unfolding copyOf
+copy-all P x es d a q = last-all P (only (λ e. eqb (e .key) x) es) d (only-all P (λ e. eqb (e .key) x) es a) q

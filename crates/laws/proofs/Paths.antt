@@ -27,53 +27,11 @@ pub along-map : (P Q : Visit → Type 0) → ((v : Visit) → P v → Q v) → (
 along-map P Q f [] a = tt
 along-map P Q f (v ∷ p) a = (f v (a .0), along-map P Q f p (a .1))
 
--- the buckets of a path are read so
-abbrev Reads : (ℕ → Option (List Entry)) → Visit → Type 0
-Reads rd v = rd (v .number) ≡ some (v .entries)
-
-met-reads : (rd : ℕ → Option (List Entry)) (v : Visit) (r : Option (List Visit)) (p : List Visit) → Reads rd v
-    → ((q : List Visit) → r ≡ some q → Along (Reads rd) q) → met v r ≡ some p → Along (Reads rd) p
-unfolding met
-met-reads rd v none p a ih q = absurd (none-some q)
-met-reads rd v (some o) p a ih q = let e : v ∷ o ≡ p = cc in subst (Along (Reads rd)) e (a, ih o refl)
-
-go-reads : (rd : ℕ → Option (List Entry)) (v : Visit) (u : Turn) (on : ℕ → ℕ → Option (List Visit)) (p : List Visit) → Reads rd v
-    → ((b k : ℕ) (q : List Visit) → on b k ≡ some q → Along (Reads rd) q) → go v u on ≡ some p → Along (Reads rd) p
-unfolding go
-go-reads rd v broken on p a ih q = absurd (none-some q)
-go-reads rd v arrived on p a ih q = let e : v ∷ [] ≡ p = cc in subst (Along (Reads rd)) e (a, tt)
-go-reads rd v (down d) on p a ih q = met-reads rd v (on (d .value) (d .key)) p a (ih (d .value) (d .key)) q
-
-in-reads : (rd : ℕ → Option (List Entry)) (t x b k : ℕ) (r : Option (List Entry)) (on : ℕ → ℕ → Option (List Visit)) (p : List Visit) → rd b ≡ r
-    → ((c j : ℕ) (q : List Visit) → on c j ≡ some q → Along (Reads rd) q) → goIn t x b k r on ≡ some p → Along (Reads rd) p
-unfolding goIn
-in-reads rd t x b k none on p e ih q = absurd (none-some q)
-in-reads rd t x b k (some es) on p e ih q = go-reads rd (record { number = b; entries = es }) (turn t x k es) on p e ih q
-
-path-reads : (rd : ℕ → Option (List Entry)) (t x f b k : ℕ) (p : List Visit) → path rd t x f b k ≡ some p → Along (Reads rd) p
-unfolding path
-path-reads rd t x zero b k p q = absurd (none-some q)
-path-reads rd t x (suc f) b k p q = in-reads rd t x b k (rd b) (path rd t x f) p refl (path-reads rd t x f) q
-
-from-reads : (rd : ℕ → Option (List Entry)) (t x f : ℕ) (r : Option Entry) (p : List Visit) → pathFrom rd t x f r ≡ some p → Along (Reads rd) p
-unfolding pathFrom
-from-reads rd t x f none p q = absurd (none-some q)
-from-reads rd t x f (some r) p q = path-reads rd t x f (r .value) 0 p q
-
-inlog-reads : (rd : ℕ → Option (List Entry)) (t x f : ℕ) (l : Option (List Entry)) (p : List Visit) → pathIn rd t x f l ≡ some p → Along (Reads rd) p
-unfolding pathIn
-inlog-reads rd t x f none p q = absurd (none-some q)
-inlog-reads rd t x f (some es) p q = from-reads rd t x f (lastOf (left t es)) p q
-
-pub walk-reads : (h : Head) (card : List ℕ) (t x : ℕ) (p : List Visit) → walk h card t x ≡ some p → Along (λ v. bucket h card (v .number) ≡ some (v .entries)) p
-unfolding walk
-walk-reads h card t x p q = inlog-reads (bucket h card) t x (h .n) (log h card) p q
-
 -- a path: it ends at the bucket, or goes on from it
 abbrev Goes : Visit → Turn → (ℕ → ℕ → Option (List Visit)) → List Visit → Type 0
 Goes v u on p = ((u ≡ arrived) × (p ≡ v ∷ [])) ⊎ ((d : Entry) × (q : List Visit) × (u ≡ down d) × (on (d .value) (d .key) ≡ some q) × (p ≡ v ∷ q))
 
-met-inv : (v : Visit) (r : Option (List Visit)) (p : List Visit) → met v r ≡ some p → (q : List Visit) × (r ≡ some q) × (p ≡ v ∷ q)
+pub met-inv : (v : Visit) (r : Option (List Visit)) (p : List Visit) → met v r ≡ some p → (q : List Visit) × (r ≡ some q) × (p ≡ v ∷ q)
 unfolding met
 met-inv v none p e = absurd (none-some e)
 met-inv v (some q) p e = (q, refl, cc)
@@ -87,18 +45,56 @@ go-inv v (down d) on p e = let m = met-inv v (on (d .value) (d .key)) p e in inr
 abbrev Steps : (ℕ → Option (List Entry)) → ℕ → ℕ → ℕ → ℕ → Option (List Entry) → (ℕ → ℕ → Option (List Visit)) → List Visit → Type 0
 Steps rd t x b k r on p = (es : List Entry) × (r ≡ some es) × Goes (record { number = b; entries = es }) (turn t x k es) on p
 
-in-inv : (rd : ℕ → Option (List Entry)) (t x b k : ℕ) (r : Option (List Entry)) (on : ℕ → ℕ → Option (List Visit)) (p : List Visit) → goIn t x b k r on ≡ some p → Steps rd t x b k r on p
+in-inv : (rd : ℕ → Option (List Entry)) (t x b k : ℕ) (r : Option (List Entry)) (on : ℕ → ℕ → Option (List Visit)) (p : List Visit)
+    → goIn t x b k r on ≡ some p → Steps rd t x b k r on p
 unfolding goIn
 in-inv rd t x b k none on p e = absurd (none-some e)
 in-inv rd t x b k (some es) on p e = (es, refl, go-inv (record { number = b; entries = es }) (turn t x k es) on p e)
 
-path-inv : (rd : ℕ → Option (List Entry)) (t x f b k : ℕ) (p : List Visit) → path rd t x (suc f) b k ≡ some p → Steps rd t x b k (rd b) (path rd t x f) p
+path-inv : (rd : ℕ → Option (List Entry)) (t x f b k : ℕ) (p : List Visit) → path rd t x (suc f) b k ≡ some p
+    → Steps rd t x b k (rd b) (path rd t x f) p
 unfolding path
 path-inv rd t x f b k p e = in-inv rd t x b k (rd b) (path rd t x f) p e
 
 path-zero : (rd : ℕ → Option (List Entry)) (t x b k : ℕ) (p : List Visit) → path rd t x zero b k ≡ some p → ⊥
 unfolding path
 path-zero rd t x b k p e = none-some e
+
+from-inv : (rd : ℕ → Option (List Entry)) (t x f : ℕ) (r : Option Entry) (p : List Visit) → pathFrom rd t x f r ≡ some p
+    → (b : ℕ) × (path rd t x f b 0 ≡ some p)
+unfolding pathFrom
+from-inv rd t x f none p q = absurd (none-some q)
+from-inv rd t x f (some r) p q = (r .value, q)
+
+in-log : (rd : ℕ → Option (List Entry)) (t x f : ℕ) (l : Option (List Entry)) (p : List Visit) → pathIn rd t x f l ≡ some p
+    → (b : ℕ) × (path rd t x f b 0 ≡ some p)
+unfolding pathIn
+in-log rd t x f none p q = absurd (none-some q)
+in-log rd t x f (some es) p q = from-inv rd t x f (lastOf (left t es)) p q
+
+-- a walk is the path from some root
+walk-inv : (h : Head) (card : List ℕ) (t x : ℕ) (p : List Visit) → walk h card t x ≡ some p → (b : ℕ) × (path (bucket h card) t x (h .n) b 0 ≡ some p)
+unfolding walk
+walk-inv h card t x p q = in-log (bucket h card) t x (h .n) (log h card) p q
+
+-- the buckets of a path are read so
+abbrev Reads : (ℕ → Option (List Entry)) → Visit → Type 0
+Reads rd v = rd (v .number) ≡ some (v .entries)
+
+path-reads : (rd : ℕ → Option (List Entry)) (t x f b k : ℕ) (p : List Visit) → path rd t x f b k ≡ some p → Along (Reads rd) p
+path-reads rd t x zero b k p e = absurd (path-zero rd t x b k p e)
+path-reads rd t x (suc f) b k p e =
+    let s = path-inv rd t x f b k p e in
+    let v : Visit = record { number = b; entries = s .0 } in
+    ⊎-elim
+    (λ (a : (turn t x k (s .0) ≡ arrived) × (p ≡ v ∷ [])). subst (Along (Reads rd)) (sym (a .1)) (s .1, tt))
+    (λ (a : (m : Entry) × (o : List Visit) × (turn t x k (s .0) ≡ down m) × (path rd t x f (m .value) (m .key) ≡ some o) × (p ≡ v ∷ o)).
+    subst (Along (Reads rd)) (sym (a .4)) (s .1, path-reads rd t x f (a .0 .value) (a .0 .key) (a .1) (a .3)))
+    (s .2)
+
+pub walk-reads : (h : Head) (card : List ℕ) (t x : ℕ) (p : List Visit) → walk h card t x ≡ some p
+    → Along (λ v. bucket h card (v .number) ≡ some (v .entries)) p
+walk-reads h card t x p q = let w = walk-inv h card t x p q in path-reads (bucket h card) t x (h .n) (w .0) 0 p (w .1)
 
 -- the key followed to a bucket of a path is its header's
 turn-key : (t x k : ℕ) (es : List Entry) → (turn t x k es ≡ broken → ⊥) → keyOf es ≡ k
@@ -126,7 +122,8 @@ goes-key : (t x k : ℕ) (es : List Entry) (v : Visit) (on : ℕ → ℕ → Opt
 goes-key t x k es v on p (inl a) = turn-key t x k es (λ z. arrived-broken (sym (a .0) ∙ z))
 goes-key t x k es v on p (inr a) = turn-key t x k es (λ z. down-broken (a .0) (sym (a .2) ∙ z))
 
-path-key : (rd : ℕ → Option (List Entry)) (t x f b k : ℕ) (p : List Visit) → path rd t x f b k ≡ some p → (es : List Entry) × (rd b ≡ some es) × (keyOf es ≡ k)
+path-key : (rd : ℕ → Option (List Entry)) (t x f b k : ℕ) (p : List Visit) → path rd t x f b k ≡ some p
+    → (es : List Entry) × (rd b ≡ some es) × (keyOf es ≡ k)
 path-key rd t x zero b k p e = absurd (path-zero rd t x b k p e)
 path-key rd t x (suc f) b k p e =
     let s = path-inv rd t x f b k p e in
@@ -214,17 +211,6 @@ path-once rd t x (suc f) b k p e =
     ))
     (s .2)
 
-from-once : (rd : ℕ → Option (List Entry)) (t x f : ℕ) (r : Option Entry) (p : List Visit) → pathFrom rd t x f r ≡ some p → Apart p
-unfolding pathFrom
-from-once rd t x f none p q = absurd (none-some q)
-from-once rd t x f (some r) p q = path-once rd t x f (r .value) 0 p q
-
-inlog-once : (rd : ℕ → Option (List Entry)) (t x f : ℕ) (l : Option (List Entry)) (p : List Visit) → pathIn rd t x f l ≡ some p → Apart p
-unfolding pathIn
-inlog-once rd t x f none p q = absurd (none-some q)
-inlog-once rd t x f (some es) p q = from-once rd t x f (lastOf (left t es)) p q
-
 -- on any card: a walk visits no bucket twice
 pub walk-once : (h : Head) (card : List ℕ) (t x : ℕ) (p : List Visit) → walk h card t x ≡ some p → Apart p
-unfolding walk
-walk-once h card t x p q = inlog-once (bucket h card) t x (h .n) (log h card) p q
+walk-once h card t x p q = let w = walk-inv h card t x p q in path-once (bucket h card) t x (h .n) (w .0) 0 p (w .1)

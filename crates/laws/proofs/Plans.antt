@@ -36,7 +36,8 @@ from-one : (x : ℕ) → (x ≡ 0 → ⊥) → 1 ≤ x
 from-one zero n = absurd (n refl)
 from-one (suc x) n = omega arith
 
-at-walk : (h : Head) (card : List ℕ) (e : Entry) (new : List ℕ) (w : Option (List Visit)) → planAt h card e w ≡ accept new → (p : List Visit) × (w ≡ some p)
+at-walk : (h : Head) (card : List ℕ) (e : Entry) (new : List ℕ) (w : Option (List Visit)) → planAt h card e w ≡ accept new
+    → (p : List Visit) × (w ≡ some p)
 unfolding planAt
 at-walk h card e new none y = absurd (no-accept 4 new y)
 at-walk h card e new (some p) y = (p, refl)

@@ -2,71 +2,36 @@
 use mathlib.Core.Path.{_∙_, _≡_, ap, refl, subst, sym}
 use mathlib.Core.Logic.{_⊎_, inl, inr, ⊎-elim}
 use mathlib.Core.Bool.{false, true}
-use mathlib.Core.Option.{none, some}
 use Prim.Native.Nat.{_*_, _+_, _-_, _/_, _<_, _≤_, suc, zero, ℕ}
 use native.Mathlib.Omega.{arith}
 use mathlib.Core.List.{List, [], _++_, _∷_}
 use lib.ListN.{drop, length, take, take-append-drop}
 use lib.Dec.{leb, ltb}
-use borrow.Author.Tests.{le-leb}
 use Rattle.rules.specs.declared.Entry.{Entry}
 use Rattle.rules.specs.declared.Head.{Head}
-use Rattle.rules.specs.declared.Sector.the-variants.{Blank, Held}
-use Rattle.rules.specs.Bucket.{also, blanks, blanksOf, bucket, logBlanks, run}
+use Rattle.rules.specs.Bucket.{also, blanks, blanksOf, logBlanks}
 use Rattle.rules.specs.Layout.{base, sizeOf}
 use Rattle.rules.specs.Plain.{if, zeros}
 use Rattle.rules.specs.Rewrite.{Rise, fill, into, kept, keyOf, limitOf, oneBucket, pair, renew, twoBuckets}
-use Rattle.rules.specs.Sector.{decode, encode, legal, put, rootEntry, sectorAt}
+use Rattle.rules.specs.Sector.{encode, put, rootEntry, sectorAt}
 use Rattle.rules.specs.Walk.{Visit}
 use Rattle.rules.specs.Write.{accept, climb, finish, logFull, logged, place, placeIf, planOn, rooted, topUsed}
-use Rattle.laws.proofs.Tools.{eq-or-ne, none-some, true-and, true-false}
-use Rattle.laws.proofs.Lists.{All, all-append, all-map, all-left, all-right}
+use Rattle.laws.proofs.Tools.{eq-or-ne, true-false}
+use Rattle.laws.proofs.Lists.{All, all-append, all-left, all-right}
 use Rattle.laws.proofs.Sectors.{length-put, sector-put-other, sector-put-same}
-use Rattle.laws.proofs.Codec.{Fits, decode-encode, held-zeros, length-encode}
-use Rattle.laws.proofs.Run.{onto-inv}
-use Rattle.laws.proofs.Buckets.{bucket-in, bucket-raw}
+use Rattle.laws.proofs.Codec.{length-encode}
+use Rattle.laws.proofs.Buckets.{bucket-in}
 use Rattle.laws.proofs.Blocks.{Each, blanks-each, each-map}
-use Rattle.laws.proofs.Bytes.{Bytes, Fine, bytes-encode, bytes-put}
+use Rattle.laws.proofs.Entries.{Fine, pair-fine, fine-says, root-says}
 use Rattle.laws.proofs.Fresh.{climb-mono, placeIf-fresh, rooted-fresh}
 use Rattle.laws.proofs.Halves.{kept-all}
-use Rattle.laws.proofs.Into.{Stays}
 use Rattle.laws.proofs.Paths.{Along}
 use Rattle.laws.proofs.Plans.{checked-inv}
 
--- a pair is an entry as it should be
-pub pair-fine : (n s b k : ℕ) (es : List Entry) → keyOf es ≡ k → k < 4294967296 → s < 4294967296 → 1 ≤ b → b ≤ n → n ≤ 4096 → Fine n (pair s b es)
-unfolding pair legal
-pair-fine n s b k es ke kl sl lo hi nn =
-    (record { kind = omega arith; key = omega arith; stamp = sl; value = omega arith }, true-and (le-leb 1 b lo) (le-leb b n hi))
-
--- an entry of a bucket stands in a sector of the bucket area
-abbrev pub Stands : ℕ → List ℕ → ℕ → ℕ → Entry → Type 0
-Stands n card lo hi d = (j : ℕ) × (lo ≤ j) × (j < hi) × (decode n (sectorAt card j) ≡ Held d)
-
-run-stands : (n : ℕ) (card : List ℕ) (i c : ℕ) (es : List Entry) → run n card i c ≡ some es → All (Stands n card i (i + c)) es
-unfolding run
-run-stands n card i zero [] q = tt
-run-stands n card i zero (e ∷ es) q = absurd (none-some (let z : none ≡ some e = cc in z))
-run-stands n card i (suc c) es q =
-    ⊎-elim
-    (λ (v : (decode n (sectorAt card i) ≡ Blank) × (es ≡ []) × (run n card (suc i) c ≡ some [])). subst (All (Stands n card i (i + suc c))) (sym (v .1)) tt)
-    (λ (v : (x : Entry) × (xs : List Entry) × (decode n (sectorAt card i) ≡ Held x) × (es ≡ x ∷ xs) × (run n card (suc i) c ≡ some xs)).
-    subst (All (Stands n card i (i + suc c))) (sym (v .3)) (
-      (i, omega arith, omega arith, v .2),
-      all-map (Stands n card (suc i) (suc i + c)) (Stands n card i (i + suc c)) (λ d z. let a = z .1 in let b = z .2 in (z .0, omega arith, omega arith, z .3)) (v .1)
-          (run-stands n card (suc i) c (v .1) (v .4)),
-    ))
-    (onto-inv (decode n (sectorAt card i)) (run n card (suc i) c) es q)
-
-pub bucket-stands : (h : Head) (card : List ℕ) (b : ℕ) (es : List Entry) → bucket h card b ≡ some es → All (Stands (h .n) card (base h b) (base h b + h .m)) es
-bucket-stands h card b es q = run-stands (h .n) card (base h b) (h .m) es (bucket-raw h card b es q .1)
-
--- d is put at sector i: it is blank and lies past the head; what is put into the bucket area is an entry with Q
+-- d is put at sector i, which is blank; what is put into the bucket area is an entry with Q
 pub record Put (h : Head) (Q : Entry → Type 0) (card : List ℕ) (i : ℕ) (d : Entry) : Type 0 where
   pub blank : zeros (sectorAt card i) ≡ true
-  pub low : 1 ≤ i
   pub high : i < 1 + h .n + h .n * h .m
-  pub fits : Fits d
   pub says : zeros (encode d) ≡ false
   pub area : 1 + h .n ≤ i → Fine (h .n) d × Q d
 
@@ -75,7 +40,8 @@ abbrev pub Puts : Head → (Entry → Type 0) → List ℕ → List ℕ → List
 Puts h Q card [] new = card ≡ new
 Puts h Q card (i ∷ is) new = (d : Entry) × Put h Q card i d × Puts h Q (put card i (encode d)) is new
 
-pub puts-append : (h : Head) (Q : Entry → Type 0) (a : List ℕ) (is : List ℕ) (b : List ℕ) (js : List ℕ) (c : List ℕ) → Puts h Q a is b → Puts h Q b js c → Puts h Q a (is ++ js) c
+pub puts-append : (h : Head) (Q : Entry → Type 0) (a : List ℕ) (is : List ℕ) (b : List ℕ) (js : List ℕ) (c : List ℕ) → Puts h Q a is b
+    → Puts h Q b js c → Puts h Q a (is ++ js) c
 puts-append h Q a [] b js c p q = subst (λ z. Puts h Q z js c) (sym p) q
 puts-append h Q a (i ∷ is) b js c p q = (p .0, p .1, puts-append h Q (put a i (encode (p .0))) is b js c (p .2) q)
 
@@ -83,23 +49,24 @@ pub in-card : (h : Head) (card : List ℕ) → sizeOf h ≡ length card → (i :
 unfolding sizeOf
 in-card h card size i lt = omega arith
 
-put-size : (h : Head) (card : List ℕ) (i : ℕ) (d : Entry) → sizeOf h ≡ length card → i < 1 + h .n + h .n * h .m → sizeOf h ≡ length (put card i (encode d))
+put-size : (h : Head) (card : List ℕ) (i : ℕ) (d : Entry) → sizeOf h ≡ length card → i < 1 + h .n + h .n * h .m
+    → sizeOf h ≡ length (put card i (encode d))
 put-size h card i d size lt = size ∙ sym (length-put card i (encode d) (length-encode d) (in-card h card size i lt))
 
-pub puts-size : (h : Head) (Q : Entry → Type 0) (card : List ℕ) (is : List ℕ) (new : List ℕ) → sizeOf h ≡ length card → Puts h Q card is new → sizeOf h ≡ length new
+pub puts-size : (h : Head) (Q : Entry → Type 0) (card : List ℕ) (is : List ℕ) (new : List ℕ) → sizeOf h ≡ length card → Puts h Q card is new
+    → sizeOf h ≡ length new
 puts-size h Q card [] new size p = size ∙ ap length p
 puts-size h Q card (i ∷ is) new size p = puts-size h Q (put card i (encode (p .0))) is new (put-size h card i (p .0) size (p .1 .high)) (p .2)
 
 -- a sector that is not as before was blank, and holds one of the entries
 pub record Changed (h : Head) (Q : Entry → Type 0) (card new : List ℕ) (j : ℕ) : Type 0 where
   pub was : zeros (sectorAt card j) ≡ true
-  pub low : 1 ≤ j
-  pub high : j < 1 + h .n + h .n * h .m
   pub entry : Entry
   pub here : sectorAt new j ≡ encode entry
   pub area : 1 + h .n ≤ j → Fine (h .n) entry × Q entry
 
-pub puts-sector : (h : Head) (Q : Entry → Type 0) (card : List ℕ) (is : List ℕ) (new : List ℕ) → sizeOf h ≡ length card → Puts h Q card is new → (j : ℕ)
+pub puts-sector : (h : Head) (Q : Entry → Type 0) (card : List ℕ) (is : List ℕ) (new : List ℕ) → sizeOf h ≡ length card → Puts h Q card is new
+    → (j : ℕ)
     → (sectorAt new j ≡ sectorAt card j) ⊎ Changed h Q card new j
 puts-sector h Q card [] new size p j = inl (ap (λ z. sectorAt z j) (sym p))
 puts-sector h Q card (i ∷ is) new size p j =
@@ -114,8 +81,6 @@ puts-sector h Q card (i ∷ is) new size p j =
     (λ (s : sectorAt new j ≡ sectorAt card1 j).
     inr (record {
       was = ap (λ z. zeros (sectorAt card z)) ji ∙ p .1 .blank;
-      low = subst (λ z. 1 ≤ z) (sym ji) (p .1 .low);
-      high = subst (λ z. z < 1 + h .n + h .n * h .m) (sym ji) (p .1 .high);
       entry = d;
       here = s ∙ here;
       area = subst (λ z. 1 + h .n ≤ z → Fine (h .n) d × Q d) (sym ji) (p .1 .area);
@@ -126,39 +91,9 @@ puts-sector h Q card (i ∷ is) new size p j =
     let other : sectorAt card1 j ≡ sectorAt card j = sector-put-other card i j (encode d) (length-encode d) room ne in
     ⊎-elim
     (λ (s : sectorAt new j ≡ sectorAt card1 j). inl (s ∙ other))
-    (λ (c : Changed h Q card1 new j). inr (record { was = ap zeros (sym other) ∙ c .was; low = c .low; high = c .high; entry = c .entry; here = c .here; area = c .area }))
+    (λ (c : Changed h Q card1 new j). inr (record { was = ap zeros (sym other) ∙ c .was; entry = c .entry; here = c .here; area = c .area }))
     ih)
     (eq-or-ne j i)
-
-pub puts-stays : (h : Head) (Q : Entry → Type 0) (card : List ℕ) (is : List ℕ) (new : List ℕ) → sizeOf h ≡ length card → Puts h Q card is new → Stays card new
-puts-stays h Q card is new size p j z =
-    ⊎-elim (λ (s : sectorAt new j ≡ sectorAt card j). s) (λ (c : Changed h Q card new j). absurd (true-false (sym (c .was) ∙ z))) (puts-sector h Q card is new size p j)
-
-pub puts-bytes : (h : Head) (Q : Entry → Type 0) (card : List ℕ) (is : List ℕ) (new : List ℕ) → Bytes card → Puts h Q card is new → Bytes new
-puts-bytes h Q card [] new by p = subst Bytes p by
-puts-bytes h Q card (i ∷ is) new by p = puts-bytes h Q (put card i (encode (p .0))) is new (bytes-put card i (encode (p .0)) by (bytes-encode (p .0) (p .1 .fits))) (p .2)
-
--- no sector is put to twice
-abbrev pub Once : List ℕ → Type 0
-Once [] = Unit {0}
-Once (i ∷ is) = Each (λ k. i ≡ k → ⊥) is × Once is
-
-puts-away : (h : Head) (Q : Entry → Type 0) (card : List ℕ) (is : List ℕ) (new : List ℕ) → sizeOf h ≡ length card → Puts h Q card is new
-    → (j : ℕ) → zeros (sectorAt card j) ≡ false → Each (λ k. j ≡ k → ⊥) is
-puts-away h Q card [] new size p j z = tt
-puts-away h Q card (i ∷ is) new size p j z =
-    let d = p .0 in
-    let ne : j ≡ i → ⊥ = λ ji. true-false (sym (p .1 .blank) ∙ ap (λ k. zeros (sectorAt card k)) (sym ji) ∙ z) in
-    let other = sector-put-other card i j (encode d) (length-encode d) (in-card h card size i (p .1 .high)) ne in
-    (ne, puts-away h Q (put card i (encode d)) is new (put-size h card i d size (p .1 .high)) (p .2) j (ap zeros other ∙ z))
-
-pub puts-once : (h : Head) (Q : Entry → Type 0) (card : List ℕ) (is : List ℕ) (new : List ℕ) → sizeOf h ≡ length card → Puts h Q card is new → Once is
-puts-once h Q card [] new size p = tt
-puts-once h Q card (i ∷ is) new size p =
-    let d = p .0 in
-    let size1 = put-size h card i d size (p .1 .high) in
-    let same = sector-put-same card i (encode d) (length-encode d) (in-card h card size i (p .1 .high)) in
-    (puts-away h Q (put card i (encode d)) is new size1 (p .2) i (ap zeros same ∙ p .1 .says), puts-once h Q (put card i (encode d)) is new size1 (p .2))
 
 -- the blanks of a run of sectors rise
 abbrev Rising : ℕ → List ℕ → Type 0
@@ -182,21 +117,11 @@ blanks-rising card i (suc c) =
 
 -- a sector that may be written
 abbrev Spot : Head → List ℕ → ℕ → Type 0
-Spot h card i = (zeros (sectorAt card i) ≡ true) × (1 ≤ i) × (i < 1 + h .n + h .n * h .m)
+Spot h card i = (zeros (sectorAt card i) ≡ true) × (i < 1 + h .n + h .n * h .m)
 
 each-both : (P Q : ℕ → Type 0) (is : List ℕ) → Each P is → Each Q is → Each (λ i. P i × Q i) is
 each-both P Q [] a b = tt
 each-both P Q (i ∷ is) a b = ((a .0, b .0), each-both P Q is (a .1) (b .1))
-
-fine-says : (n : ℕ) (d : Entry) → Fine n d → zeros (encode d) ≡ false
-fine-says n d f = held-zeros n (encode d) d (decode-encode n d (f .0) (f .1))
-
-root-says : (s b : ℕ) → zeros (encode (rootEntry s b)) ≡ false
-unfolding zeros encode
-root-says s b = refl
-
-root-fits : (s b : ℕ) → s < 4294967296 → b < 4294967296 → Fits (rootEntry s b)
-root-fits s b sl bl = record { kind = omega arith; key = omega arith; stamp = sl; value = bl }
 
 -- entries can be put so that the card becomes new
 abbrev pub Chain : Head → (Entry → Type 0) → List ℕ → List ℕ → Type 0
@@ -211,37 +136,40 @@ chain-more h Q a b c p q = (p .0 ++ q .0, puts-append h Q a (p .0) b (q .0) c (p
 pub chain-size : (h : Head) (Q : Entry → Type 0) (card new : List ℕ) → sizeOf h ≡ length card → Chain h Q card new → sizeOf h ≡ length new
 chain-size h Q card new size p = puts-size h Q card (p .0) new size (p .1)
 
-fill-chain : (h : Head) (Q : Entry → Type 0) (card : List ℕ) → sizeOf h ≡ length card → (lo : ℕ) (is : List ℕ) (es : List Entry) → Rising lo is → Each (Spot h card) is → All (λ d. Fine (h .n) d × Q d) es
+fill-chain : (h : Head) (Q : Entry → Type 0) (card : List ℕ) → sizeOf h ≡ length card → (lo : ℕ) (is : List ℕ) (es : List Entry) → Rising lo is
+    → Each (Spot h card) is → All (λ d. Fine (h .n) d × Q d) es
     → Chain h Q card (fill card is es)
 unfolding fill
 fill-chain h Q card size lo is [] r sp a = ([], refl)
 fill-chain h Q card size lo [] (e ∷ es) r sp a = ([], refl)
 fill-chain h Q card size lo (i ∷ is) (e ∷ es) r sp a =
     let card1 = put card i (encode e) in
-    let room = in-card h card size i (sp .0 .2) in
+    let room = in-card h card size i (sp .0 .1) in
     let sp1 : Each (Spot h card1) is = each-map (λ k. Spot h card k × (k ≡ i → ⊥)) (Spot h card1)
-    (λ k z. (ap zeros (sector-put-other card i k (encode e) (length-encode e) room (z .1)) ∙ z .0 .0, z .0 .1, z .0 .2)) is
+    (λ k z. (ap zeros (sector-put-other card i k (encode e) (length-encode e) room (z .1)) ∙ z .0 .0, z .0 .1)) is
     (each-both (Spot h card) (λ k. k ≡ i → ⊥) is (sp .1) (rising-away i (suc i) (omega arith) is (r .1))) in
-    let ih = fill-chain h Q card1 (put-size h card i e size (sp .0 .2)) (suc i) is es (r .1) sp1 (a .1) in
-    (i ∷ ih .0, (e, record { blank = sp .0 .0; low = sp .0 .1; high = sp .0 .2; fits = a .0 .0 .0; says = fine-says (h .n) e (a .0 .0); area = λ z. a .0 }, ih .1))
+    let ih = fill-chain h Q card1 (put-size h card i e size (sp .0 .1)) (suc i) is es (r .1) sp1 (a .1) in
+    (i ∷ ih .0, (e, record { blank = sp .0 .0; high = sp .0 .1; says = fine-says (h .n) e (a .0 .0); area = λ z. a .0 }, ih .1))
 
-pub into-chain : (h : Head) (Q : Entry → Type 0) (card : List ℕ) → sizeOf h ≡ length card → (b : ℕ) → 1 ≤ b → b ≤ h .n → (es : List Entry) → All (λ d. Fine (h .n) d × Q d) es
+pub into-chain : (h : Head) (Q : Entry → Type 0) (card : List ℕ) → sizeOf h ≡ length card → (b : ℕ) → 1 ≤ b → b ≤ h .n → (es : List Entry)
+    → All (λ d. Fine (h .n) d × Q d) es
     → Chain h Q card (into h b es card)
 unfolding into blanksOf base
 into-chain h Q card size b lo hi es a =
     fill-chain h Q card size (base h b) (blanks card (base h b) (h .m)) es (blanks-rising card (base h b) (h .m))
-    (blanks-each (Spot h card) card (base h b) (h .m) (λ j p q z. (z, omega arith, omega (arith, bucket-in (h .m) (h .n) b lo hi)))) a
+    (blanks-each (Spot h card) card (base h b) (h .m) (λ j p q z. (z, omega (arith, bucket-in (h .m) (h .n) b lo hi)))) a
 
-log-one : (h : Head) (Q : Entry → Type 0) (card : List ℕ) (s b : ℕ) → Fits (rootEntry s b) → (is : List ℕ) → Each (λ i. Spot h card i × (i < 1 + h .n)) is → Chain h Q card (fill card is (rootEntry s b ∷ []))
+log-one : (h : Head) (Q : Entry → Type 0) (card : List ℕ) (s b : ℕ) (is : List ℕ) → Each (λ i. Spot h card i × (i < 1 + h .n)) is
+    → Chain h Q card (fill card is (rootEntry s b ∷ []))
 unfolding fill
-log-one h Q card s b f [] a = ([], refl)
-log-one h Q card s b f (i ∷ is) a =
+log-one h Q card s b [] a = ([], refl)
+log-one h Q card s b (i ∷ is) a =
     let lt = a .0 .1 in
-    (i ∷ [], (rootEntry s b, record { blank = a .0 .0 .0; low = a .0 .0 .1; high = a .0 .0 .2; fits = f; says = root-says s b; area = λ z. absurd (omega arith) }, refl))
+    (i ∷ [], (rootEntry s b, record { blank = a .0 .0 .0; high = a .0 .0 .1; says = root-says s b; area = λ z. absurd (omega arith) }, refl))
 
-log-chain : (h : Head) (Q : Entry → Type 0) (card : List ℕ) (s b : ℕ) → Fits (rootEntry s b) → Chain h Q card (fill card (logBlanks h card) (rootEntry s b ∷ []))
+log-chain : (h : Head) (Q : Entry → Type 0) (card : List ℕ) (s b : ℕ) → Chain h Q card (fill card (logBlanks h card) (rootEntry s b ∷ []))
 unfolding logBlanks
-log-chain h Q card s b f = log-one h Q card s b f (blanks card 1 (h .n)) (blanks-each (λ i. Spot h card i × (i < 1 + h .n)) card 1 (h .n) (λ j p q z. ((z, p, omega arith), omega arith)))
+log-chain h Q card s b = log-one h Q card s b (blanks card 1 (h .n)) (blanks-each (λ i. Spot h card i × (i < 1 + h .n)) card 1 (h .n) (λ j p q z. ((z, omega arith), omega arith)))
 
 -- what one call puts
 module _ (h : Head) (n4096 : h .n ≤ 4096) (s : ℕ) (s32 : s < 4294967296) (Q : Entry → Type 0) (qp : (b : ℕ) (ks : List Entry) → Q (pair s b ks)) (card : List ℕ) (size : sizeOf h ≡ length card) where
@@ -266,7 +194,8 @@ module _ (h : Head) (n4096 : h .n ≤ 4096) (s : ℕ) (s32 : s < 4294967296) (Q 
   unfolding oneBucket
   one-ok ks r a o lo cap = (into-ok (r .fresh) ks (r .card) lo (omega arith) a (o .0), (pair-ok (r .fresh) ks a lo (omega arith), tt))
 
-  two-ok : (ls bs : List Entry) (r : Rise) → All P ls → All P bs → Ok r → 1 ≤ r .fresh → (twoBuckets h s ls bs r) .fresh ≤ h .n + 1 → Ok (twoBuckets h s ls bs r)
+  two-ok : (ls bs : List Entry) (r : Rise) → All P ls → All P bs → Ok r → 1 ≤ r .fresh → (twoBuckets h s ls bs r) .fresh ≤ h .n + 1
+      → Ok (twoBuckets h s ls bs r)
   unfolding twoBuckets
   two-ok ls bs r a b o lo cap = (
     into-ok (r .fresh + 1) bs (into h (r .fresh) ls (r .card)) (omega arith) (omega arith) b (into-ok (r .fresh) ls (r .card) lo (omega arith) a (o .0)),
@@ -278,7 +207,8 @@ module _ (h : Head) (n4096 : h .n ≤ 4096) (s : ℕ) (s32 : s < 4294967296) (Q 
   renew-ok td ks r a o lo =
       let j = length ks - length ks / 2 in
       let ab : All P (take j ks ++ drop j ks) = subst (All P) (sym (take-append-drop j ks)) a in
-      elim (ltb (length ks) td) as (λ b. (if b (oneBucket h s ks r) (twoBuckets h s (take j ks) (drop j ks) r)) .fresh ≤ h .n + 1 → Ok (if b (oneBucket h s ks r) (twoBuckets h s (take j ks) (drop j ks) r))) [
+      let two = twoBuckets h s (take j ks) (drop j ks) r in
+      elim (ltb (length ks) td) as (λ b. (if b (oneBucket h s ks r) two) .fresh ≤ h .n + 1 → Ok (if b (oneBucket h s ks r) two)) [
         | true ↦ one-ok ks r a o lo
         | false ↦ two-ok (take j ks) (drop j ks) r (all-left P (take j ks) (drop j ks) ab) (all-right P (take j ks) (drop j ks) ab) o lo
       ]
@@ -292,12 +222,14 @@ module _ (h : Head) (n4096 : h .n ≤ 4096) (s : ℕ) (s32 : s < 4294967296) (Q 
   place-ok v r a o lo =
       let ks = kept (keyOf (v .entries)) s (v .entries ++ r .hand) in
       let room : Rise = record { hand = []; fresh = r .fresh; card = into h (v .number) (r .hand) (r .card) } in
-      elim (leb (length (r .hand)) (length (blanksOf h (r .card) (v .number)))) as (λ b. (if b room (renew h s (limitOf h (v .entries)) ks r)) .fresh ≤ h .n + 1 → Ok (if b room (renew h s (limitOf h (v .entries)) ks r))) [
+      let anew = renew h s (limitOf h (v .entries)) ks r in
+      elim (leb (length (r .hand)) (length (blanksOf h (r .card) (v .number)))) as (λ b. (if b room anew) .fresh ≤ h .n + 1 → Ok (if b room anew)) [
         | true ↦ λ cap. (into-ok (v .number) (r .hand) (r .card) (a .0) (a .1) (o .1) (o .0), tt)
         | false ↦ renew-ok (limitOf h (v .entries)) ks r (kept-all P (keyOf (v .entries)) s (v .entries ++ r .hand) (all-append P (v .entries) (r .hand) (a .2) (o .1))) o lo
       ]
 
-  placeIf-ok : (v : Visit) (es : List Entry) (r : Rise) → Sits v → Ok r → 1 ≤ r .fresh → (placeIf h s v es r) .fresh ≤ h .n + 1 → Ok (placeIf h s v es r)
+  placeIf-ok : (v : Visit) (es : List Entry) (r : Rise) → Sits v → Ok r → 1 ≤ r .fresh → (placeIf h s v es r) .fresh ≤ h .n + 1
+      → Ok (placeIf h s v es r)
   unfolding placeIf
   placeIf-ok v [] r a o lo cap = o
   placeIf-ok v (e ∷ es) r a o lo cap = place-ok v r a o lo cap
@@ -311,22 +243,20 @@ module _ (h : Head) (n4096 : h .n ≤ 4096) (s : ℕ) (s32 : s < 4294967296) (Q 
       let pf = placeIf-fresh h s v (b .hand) b in
       placeIf-ok v (b .hand) b (a .0) (climb-ok p r (a .1) o lo (omega arith)) (omega arith) cap
 
-  one-fresh : (ks : List Entry) (r : Rise) → (oneBucket h s ks r) .fresh ≤ h .n + 1 → r .fresh ≤ h .n
-  unfolding oneBucket
-  one-fresh ks r cap = omega arith
-
-  logged-ok : (b : ℕ) (r : Rise) → b < 4294967296 → Chain h Q card (r .card) → Chain h Q card ((logged h s b r) .card)
+  logged-ok : (b : ℕ) (r : Rise) → Chain h Q card (r .card) → Chain h Q card ((logged h s b r) .card)
   unfolding logged
-  logged-ok b r lt o = chain-more h Q card (r .card) (fill (r .card) (logBlanks h (r .card)) (rootEntry s b ∷ [])) o (log-chain h Q (r .card) s b (root-fits s b s32 lt))
+  logged-ok b r o = chain-more h Q card (r .card) (fill (r .card) (logBlanks h (r .card)) (rootEntry s b ∷ [])) o (log-chain h Q (r .card) s b)
 
-  pub rooted-ok : (top : List Entry) (r : Rise) → All P top → Ok r → 1 ≤ r .fresh → (rooted h s top r) .fresh ≤ h .n + 1 → Chain h Q card ((rooted h s top r) .card)
+  pub rooted-ok : (top : List Entry) (r : Rise) → All P top → Ok r → 1 ≤ r .fresh → (rooted h s top r) .fresh ≤ h .n + 1
+      → Chain h Q card ((rooted h s top r) .card)
   unfolding rooted logged
   rooted-ok [] r a o lo cap = o .0
-  rooted-ok (e ∷ []) r a o lo cap = logged-ok (e .value) r (a .0 .0 .0 .value) (o .0)
-  rooted-ok (e ∷ d ∷ es) r a o lo cap = logged-ok (r .fresh) (oneBucket h s (e ∷ d ∷ es) r) (let z = one-fresh (e ∷ d ∷ es) r cap in omega arith) (one-ok (e ∷ d ∷ es) r a o lo cap .0)
+  rooted-ok (e ∷ []) r a o lo cap = logged-ok (e .value) r (o .0)
+  rooted-ok (e ∷ d ∷ es) r a o lo cap = logged-ok (r .fresh) (oneBucket h s (e ∷ d ∷ es) r) (one-ok (e ∷ d ∷ es) r a o lo cap .0)
 
 -- the whole of an accepted write
-pub plan-chain : (h : Head) → h .n ≤ 4096 → (Q : Entry → Type 0) (e : Entry) → ((b : ℕ) (ks : List Entry) → Q (pair (e .stamp) b ks)) → (card : List ℕ) → sizeOf h ≡ length card
+pub plan-chain : (h : Head) → h .n ≤ 4096 → (Q : Entry → Type 0) (e : Entry) → ((b : ℕ) (ks : List Entry) → Q (pair (e .stamp) b ks))
+    → (card : List ℕ) → sizeOf h ≡ length card
     → Fine (h .n) e × Q e → (p : List Visit) → Along (λ v. (1 ≤ v .number) × (v .number ≤ h .n) × All (λ d. Fine (h .n) d × Q d) (v .entries)) p
     → (new : List ℕ) → planOn h card e p ≡ accept new → Chain h Q card new
 unfolding planOn finish

@@ -39,7 +39,8 @@ back p q z j e h = ap (take 16) (one p h ∙ ap (λ n. drop (16 * j - n) z) e �
         let eq : 16 * j ≡ length r + (16 * j - length r) = omega arith in
         ap (λ n. drop n (r ++ z)) eq ∙ drop-append-add r z (16 * j - length r)
 
-pub sector-put-other : (card : List ℕ) (i j : ℕ) (bs : List ℕ) → length bs ≡ 16 → 16 * i + 16 ≤ length card → (j ≡ i → ⊥) → sectorAt (put card i bs) j ≡ sectorAt card j
+pub sector-put-other : (card : List ℕ) (i j : ℕ) (bs : List ℕ) → length bs ≡ 16 → 16 * i + 16 ≤ length card → (j ≡ i → ⊥)
+    → sectorAt (put card i bs) j ≡ sectorAt card j
 unfolding put
 sector-put-other card i j bs hb h ne = ⊎-elim behind before (le-or-lt i j)
   where
@@ -58,3 +59,18 @@ sector-put-other card i j bs hb h ne = ⊎-elim behind before (le-or-lt i j)
         (simp (length-append, length-take) (omega arith))
         (simp length-append (omega (arith, len)))
         ∙ ap (λ c. sectorAt c j) (take-append-drop (16 * i + 16) card)
+
+-- a sector of sixteen bytes lies in the card
+pub sector-lies : (card : List ℕ) (i : ℕ) → length (sectorAt card i) ≡ 16 → 16 * i + 16 ≤ length card
+unfolding sectorAt
+sector-lies card i e =
+    let l = length-take 16 (drop (16 * i) card) in
+    let d = length-drop (16 * i) card in
+    omega arith
+
+pub sector-length : (card : List ℕ) (i : ℕ) → 16 * i + 16 ≤ length card → length (sectorAt card i) ≡ 16
+unfolding sectorAt
+sector-length card i le =
+    let l = length-take 16 (drop (16 * i) card) in
+    let d = length-drop (16 * i) card in
+    omega arith

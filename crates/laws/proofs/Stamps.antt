@@ -21,7 +21,7 @@ use Rattle.laws.proofs.Bytes.{held-inv}
 use Rattle.laws.proofs.Lists.{All}
 use Rattle.laws.proofs.Run.{onto-inv}
 use Rattle.laws.proofs.Tools.{false-true, le-or-lt, none-some}
-use Rattle.laws.proofs.Used.{zeros-get}
+use Rattle.laws.proofs.Zeros.{zeros-get}
 
 pub top-ge : (card : List ℕ) (i c j : ℕ) → i ≤ j → j < i + c → stampOf (sectorAt card j) ≤ topStamp card i c
 unfolding topStamp

@@ -5,8 +5,8 @@ use mathlib.Core.Bool.{Bool, false, true}
 use mathlib.Core.Option.{some}
 use Prim.Native.Nat.{_+_, _<_, _≤_, suc, zero, ℕ}
 use native.Mathlib.Omega.{arith}
-use mathlib.Core.List.{List, [], _∷_}
-use lib.ListN.{getD, length}
+use mathlib.Core.List.{List, []}
+use lib.ListN.{length}
 use Rattle.rules.specs.declared.Head.{Head}
 use Rattle.rules.specs.declared.Entry.{Entry}
 use Rattle.rules.specs.Bucket.{bucket, onto, run, soundBucket, unwritten}
@@ -14,21 +14,8 @@ use Rattle.rules.specs.Layout.{base, sizeOf}
 use Rattle.rules.specs.Plain.{zeros}
 use Rattle.rules.specs.Sector.{decode, sectorAt}
 use Rattle.rules.specs.Write.{topUsed}
-use Rattle.laws.proofs.Tools.{and-true, eq-or-ne, false-true, le-or-lt, none-some}
+use Rattle.laws.proofs.Tools.{and-true, eq-or-ne, le-or-lt, none-some}
 use Rattle.laws.proofs.Buckets.{bucket-raw, bucket-within, raw}
-
-pub zeros-get : (xs : List ℕ) (j : ℕ) → zeros xs ≡ true → getD xs j 0 ≡ 0
-unfolding zeros
-zeros-get [] j z = refl
-zeros-get (zero ∷ xs) zero z = refl
-zeros-get (zero ∷ xs) (suc j) z = zeros-get xs j z
-zeros-get (suc x ∷ xs) j z = absurd (false-true z)
-
-pub get-zeros : (xs : List ℕ) → ((j : ℕ) → getD xs j 0 ≡ 0) → zeros xs ≡ true
-unfolding zeros
-get-zeros [] f = refl
-get-zeros (zero ∷ xs) f = get-zeros xs (λ j. f (suc j))
-get-zeros (suc x ∷ xs) f = absurd (let z = f 0 in omega arith)
 
 unwritten-each : (card : List ℕ) (i c j : ℕ) → unwritten card i c ≡ true → i ≤ j → j < i + c → zeros (sectorAt card j) ≡ true
 unfolding unwritten
@@ -55,7 +42,8 @@ top-blank h card (suc n) c lt le = go (unwritten card (base h (suc n)) (h .m)) r
     go true z l ih = ⊎-elim (λ p. rw p z) (λ (ne : c ≡ suc n → ⊥). ih l (omega arith)) (eq-or-ne c (suc n))
     go false z l ih = absurd (omega arith)
 
-pub top-sector : (h : Head) (card : List ℕ) (c j : ℕ) → topUsed h card (h .n) < c → c ≤ h .n → base h c ≤ j → j < base h c + h .m → zeros (sectorAt card j) ≡ true
+pub top-sector : (h : Head) (card : List ℕ) (c j : ℕ) → topUsed h card (h .n) < c → c ≤ h .n → base h c ≤ j → j < base h c + h .m
+    → zeros (sectorAt card j) ≡ true
 top-sector h card c j p q a b = unwritten-each card (base h c) (h .m) j (top-blank h card (h .n) c p q) a b
 
 pub top-raw : (h : Head) (card : List ℕ) (c : ℕ) → topUsed h card (h .n) < c → c ≤ h .n → raw h card c ≡ some []

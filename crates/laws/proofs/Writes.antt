@@ -1,69 +1,29 @@
--- An accepted write on any card with a head: each entry goes to a blank sector, none twice; the head, the length and what is written stay.
+-- An accepted write on any card with a head, and a format: what they put, and that no stamp is above the call's.
 use Prim.Native.Nat.{_<_, _≤_, ℕ, _+_, _*_}
-use borrow.Author.Tests.{le-leb}
 use lib.ListN.{length}
-use mathlib.Core.Bool.{true, false}
-use mathlib.Core.List.{List}
-use mathlib.Core.Logic.{_⊎_, inl, inr, ⊎-elim}
+use mathlib.Core.List.{List, [], _∷_}
+use mathlib.Core.Logic.{⊎-elim}
 use mathlib.Core.Option.{some}
-use mathlib.Core.Path.{_∙_, _≡_, ap, refl, sym}
+use mathlib.Core.Path.{_∙_, _≡_, ap}
 use native.Mathlib.Omega.{arith}
 use Rattle.rules.specs.declared.Entry.{Entry}
 use Rattle.rules.specs.declared.Head.{Head}
 use Rattle.rules.specs.Bucket.{bucket}
 use Rattle.rules.specs.Layout.{base, headOf, sizeOf}
-use Rattle.rules.specs.Plain.{zeros}
-use Rattle.rules.specs.Rewrite.{pair}
-use Rattle.rules.specs.Sector.{isData, isIndex, legal, sectorAt, postEntry, strikeEntry, decode}
+use Rattle.rules.specs.Rewrite.{pair, into}
+use Rattle.rules.specs.Sector.{sectorAt, decode, indexEntry}
 use Rattle.rules.specs.Write.{accept, plan, stampOn, stampOf}
+use Rattle.rules.specs.Format.{dummy}
 use Rattle.laws.proofs.Buckets.{bucket-within, bucket-raw}
-use Rattle.laws.proofs.Bytes.{Bytes, run-good, Fine, zip-fine}
-use Rattle.laws.proofs.Codec.{Fits, decode-encode}
-use Rattle.laws.proofs.Heads.{head-facts, head-same}
-use Rattle.laws.proofs.Lists.{All, all-map}
+use Rattle.laws.proofs.Bytes.{Bytes, run-good}
+use Rattle.laws.proofs.Entries.{Fine, index-fine, dummy-fine, Asks, asks-fine}
+use Rattle.laws.proofs.Codec.{decode-encode}
+use Rattle.laws.proofs.Heads.{head-facts}
+use Rattle.laws.proofs.Lists.{All, all-map, all-both}
 use Rattle.laws.proofs.Plans.{plan-inv, plan-walk}
 use Rattle.laws.proofs.Paths.{along-map, walk-reads}
-use Rattle.laws.proofs.Puts.{Puts, Changed, Once, puts-sector, puts-stays, puts-size, puts-bytes, puts-once, plan-chain, Chain}
-use Rattle.laws.proofs.Tools.{true-and}
+use Rattle.laws.proofs.Puts.{Puts, Changed, puts-sector, plan-chain, Chain, chain-more, chain-size, into-chain}
 use Rattle.laws.proofs.Stamps.{top-le, bucket-stamps, top-ge, held-stamp}
-
--- a call's entry: a post, or a strike of value 0
-unfoldable pub Asks : Entry → Type 0
-Asks e = Fits e × ((e .kind ≡ 1) ⊎ ((e .kind ≡ 2) × (e .value ≡ 0)))
-
-pub asks-data : (e : Entry) → (e .kind ≡ 1) ⊎ ((e .kind ≡ 2) × (e .value ≡ 0)) → (isIndex e ≡ false) × (isData e ≡ true)
-unfolding isIndex isData
-asks-data e (inl k) = rw k (refl, refl)
-asks-data e (inr k) = rw (k .0) (refl, refl)
-
-pub asks-legal : (n : ℕ) (e : Entry) → (e .kind ≡ 1) ⊎ ((e .kind ≡ 2) × (e .value ≡ 0)) → 1 ≤ e .key → 1 ≤ e .stamp → legal n e ≡ true
-unfolding legal
-asks-legal n e (inl k) a b = rw k (true-and (le-leb 1 (e .key) a) (le-leb 1 (e .stamp) b))
-asks-legal n e (inr k) a b = rw (k .0, k .1, le-leb 1 (e .key) a)
-
-pub asks-kind : (e : Entry) → Asks e → (isIndex e ≡ false) × (isData e ≡ true)
-unfolding Asks
-asks-kind e a = asks-data e (a .1)
-
-pub asks-stamp : (e : Entry) → Asks e → e .stamp < 4294967296
-unfolding Asks
-asks-stamp e a = a .0 .stamp
-
-pub asks-small : (e : Entry) → Asks e → e .key < 4294967296
-unfolding Asks
-asks-small e a = a .0 .key
-
-pub asks-fine : (n : ℕ) (e : Entry) → Asks e → 1 ≤ e .key → 1 ≤ e .stamp → Fine n e
-unfolding Asks
-asks-fine n e a k s = (a .0, asks-legal n e (a .1) k s)
-
-pub post-asks : (bib at time : ℕ) → bib < 4294967296 → at < 4294967296 → time < 4294967296 → Asks (postEntry bib at time)
-unfolding Asks
-post-asks bib at time a b c = (record { kind = omega arith; key = a; stamp = b; value = c }, inl refl)
-
-pub strike-asks : (bib at : ℕ) → bib < 4294967296 → at < 4294967296 → Asks (strikeEntry bib at)
-unfolding Asks
-strike-asks bib at a b = (record { kind = omega arith; key = a; stamp = b; value = omega arith }, inr (refl, refl))
 
 pair-upto : (s b : ℕ) (ks : List Entry) → pair s b ks .stamp ≤ s
 unfolding pair
@@ -86,49 +46,11 @@ call-puts h card hq by e a new q =
     (λ v z. let br = bucket-raw h card (v .number) (v .entries) z in (
       br .0,
       bucket-within h card (v .number) (v .entries) size z,
-      zip-fine (h .n) Q (v .entries) (run-good (h .n) card by (base h (v .number)) (h .m) (v .entries) (br .1))
+      all-both (Fine (h .n)) Q (v .entries) (run-good (h .n) card by (base h (v .number)) (h .m) (v .entries) (br .1))
           (all-map (λ d. d .stamp ≤ stampOn h card) Q (λ d k. omega arith) (v .entries) (up (v .number) (v .entries) z)),
     ))
     (pw .0) (walk-reads h card 4294967295 (e .key) (pw .0) (pw .1)))
     new (inv .2)
-
--- no sector is put to twice by a call
-pub call-once : (h : Head) (card : List ℕ) → headOf card ≡ some h → Bytes card → (e : Entry) → Asks e → (new : List ℕ) → plan card e ≡ accept new
-    → (is : List ℕ) × Puts h (λ d. d .stamp ≤ e .stamp) card is new × Once is
-call-once h card hq by e a new q =
-    let c = call-puts h card hq by e a new q in
-    (c .0, c .1, puts-once h (λ d. d .stamp ≤ e .stamp) card (c .0) new (head-facts card h hq .1) (c .1))
-
--- each sector is as before, or was blank and holds one of the entries put
-pub sector-after : (h : Head) (card : List ℕ) → headOf card ≡ some h → Bytes card → (e : Entry) → Asks e → (new : List ℕ) → plan card e ≡ accept new
-    → (j : ℕ) → (sectorAt new j ≡ sectorAt card j) ⊎ Changed h (λ d. d .stamp ≤ e .stamp) card new j
-sector-after h card hq by e a new q j =
-    let c = call-puts h card hq by e a new q in
-    puts-sector h (λ d. d .stamp ≤ e .stamp) card (c .0) new (head-facts card h hq .1) (c .1) j
-
--- no sector that is not blank is changed
-pub stays-after : (h : Head) (card : List ℕ) → headOf card ≡ some h → Bytes card → (e : Entry) → Asks e → (new : List ℕ) → plan card e ≡ accept new
-    → (j : ℕ) → zeros (sectorAt card j) ≡ false → sectorAt new j ≡ sectorAt card j
-stays-after h card hq by e a new q =
-    let c = call-puts h card hq by e a new q in
-    puts-stays h (λ d. d .stamp ≤ e .stamp) card (c .0) new (head-facts card h hq .1) (c .1)
-
--- the head and the length stay
-pub head-after : (h : Head) (card : List ℕ) → headOf card ≡ some h → Bytes card → (e : Entry) → Asks e → (new : List ℕ) → plan card e ≡ accept new
-    → (headOf new ≡ some h) × (length new ≡ length card)
-head-after h card hq by e a new q =
-    let c = call-puts h card hq by e a new q in
-    let size = head-facts card h hq .1 in
-    let Q : Entry → Type 0 = λ d. d .stamp ≤ e .stamp in
-    let len : length new ≡ length card = sym (puts-size h Q card (c .0) new size (c .1)) ∙ size in
-    let s0 : sectorAt new 0 ≡ sectorAt card 0 = ⊎-elim (λ s. s) (λ (x : Changed h Q card new 0). absurd (let z = x .low in omega arith)) (puts-sector h Q card (c .0) new size (c .1) 0) in
-    (head-same card new s0 len ∙ hq, len)
-
--- and the elements are bytes still
-pub bytes-after : (h : Head) (card : List ℕ) → headOf card ≡ some h → Bytes card → (e : Entry) → Asks e → (new : List ℕ) → plan card e ≡ accept new → Bytes new
-bytes-after h card hq by e a new q =
-    let c = call-puts h card hq by e a new q in
-    puts-bytes h (λ d. d .stamp ≤ e .stamp) card (c .0) new by (c .1)
 
 -- entries stamped s or earlier put on a card with no later stamp in its buckets leave none there
 pub chain-top : (h : Head) (s : ℕ) (card new : List ℕ) → sizeOf h ≡ length card → Chain h (λ d. d .stamp ≤ s) card new
@@ -146,10 +68,21 @@ chain-top h s card new size ch old =
     (puts-sector h (λ d. d .stamp ≤ s) card (ch .0) new size (ch .1) j))
 
 -- so no stamp in the buckets is above the call's
-pub top-after : (h : Head) (card : List ℕ) → headOf card ≡ some h → Bytes card → (e : Entry) → Asks e → (new : List ℕ) → plan card e ≡ accept new → stampOn h new ≤ e .stamp
+pub top-after : (h : Head) (card : List ℕ) → headOf card ≡ some h → Bytes card → (e : Entry) → Asks e → (new : List ℕ) → plan card e ≡ accept new
+    → stampOn h new ≤ e .stamp
 unfolding stampOn
 top-after h card hq by e a new q =
     let pw = plan-walk h card e new hq q in
     let above = plan-inv h card e new (pw .0) hq (pw .1) q .1 in
     chain-top h (e .stamp) card new (head-facts card h hq .1) (call-puts h card hq by e a new q)
     (λ j lo hi. let old = top-ge card (1 + h .n) (h .n * h .m) j lo hi in omega arith)
+
+-- what format puts into buckets 1 and 2
+pub format-chain : (h : Head) (card : List ℕ) → 2 ≤ h .n → sizeOf h ≡ length card
+    → Chain h (λ d. d .stamp ≤ 0) card (into h 2 (dummy ∷ []) (into h 1 (indexEntry 0 0 2 ∷ []) card))
+format-chain h card n2 size =
+    let early : Entry → Type 0 = λ d. d .stamp ≤ 0 in
+    let next = into h 1 (indexEntry 0 0 2 ∷ []) card in
+    let one = into-chain h early card size 1 (omega arith) (omega arith) (indexEntry 0 0 2 ∷ []) ((index-fine (h .n) n2, omega arith), tt) in
+    chain-more h early card next (into h 2 (dummy ∷ []) next) one
+    (into-chain h early next (chain-size h early card next size one) 2 (omega arith) n2 (dummy ∷ []) ((dummy-fine (h .n), omega arith), tt))

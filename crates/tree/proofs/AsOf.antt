@@ -1,4 +1,4 @@
--- As-of stability: what is added with a later stamp is not seen.
+-- What is added with a later stamp is not seen as of an earlier one.
 use mathlib.Core.Path.{_≡_, ap, refl, subst, sym}
 use mathlib.Core.Bool.{true}
 use mathlib.Core.Option.{Option, none, some}
@@ -11,6 +11,7 @@ use Rattle.rules.specs.declared.Entry.{Entry}
 use Rattle.rules.specs.Plain.{every, keepIf, only}
 use Rattle.rules.specs.Walk.{Turn, Visit, arrived, broken, down, go, goIn, left, met, path, turn}
 use Rattle.laws.proofs.Tools.{and-true, none-some}
+use Rattle.laws.proofs.Paths.{met-inv}
 
 -- every entry is stamped s or later
 abbrev pub Late : ℕ → List Entry → Type 0
@@ -46,11 +47,6 @@ Alike t (v ∷ p) (w ∷ q) = (v .number ≡ w .number) × (left t (v .entries) 
 -- a path of the first readings is one of the second
 abbrev pub Again : ℕ → Option (List Visit) → List Visit → Type 0
 Again t r p = (q : List Visit) × (r ≡ some q) × Alike t p q
-
-met-inv : (v : Visit) (r : Option (List Visit)) (p : List Visit) → met v r ≡ some p → (q : List Visit) × (r ≡ some q) × (p ≡ v ∷ q)
-unfolding met
-met-inv v none p e = absurd (none-some e)
-met-inv v (some q) p e = (q, refl, cc)
 
 go-late : (t : ℕ) (v w : Visit) (u : Turn) (on on' : ℕ → ℕ → Option (List Visit)) (p : List Visit)
     → v .number ≡ w .number → left t (v .entries) ≡ left t (w .entries)

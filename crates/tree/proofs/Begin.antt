@@ -1,11 +1,11 @@
--- A formatted card answers for the empty history.
-use Prim.Native.Nat.{_%_, _*_, _+_, _-_, _/_, _<_, _≤_, suc, zero, ℕ}
-use borrow.Author.Tests.{eq-eqb, le-leb, le-ltb, eqb-true}
+-- A card that format makes of a blank one answers that nothing stands.
+use Prim.Native.Nat.{_*_, _+_, _-_, _<_, _≤_, suc, zero, ℕ}
+use borrow.Author.Tests.{le-leb, le-ltb, eqb-true}
 use lib.Dec.{eqb}
-use lib.ListN.{drop, length, take}
+use lib.ListN.{length}
 use mathlib.Core.Bool.{false, true, not}
 use mathlib.Core.List.{List, [], _∷_, _++_}
-use mathlib.Core.Logic.{inr, ⊎-elim}
+use mathlib.Core.Logic.{⊎-elim}
 use mathlib.Core.Option.{none, some, Option}
 use mathlib.Core.Path.{_∙_, _≡_, ap, ap₂, refl, subst, sym}
 use native.Mathlib.Nat.{mul-le-mul-left}
@@ -14,64 +14,32 @@ use Rattle.rules.specs.declared.Entry.{Entry}
 use Rattle.rules.specs.declared.Head.{Head}
 use Rattle.rules.specs.Bucket.{blanksOf, bucket, log, onto, run, soundBucket, soundLog, joins}
 use Rattle.rules.specs.Format.{dummy, format, formatFor, formatted, meant}
-use Rattle.rules.specs.Layout.{base, headBytes, headFields, headIn, headOf, limits, sizeOf}
+use Rattle.rules.specs.Layout.{base, headBytes, headIn, headOf, limits, sizeOf}
 use Rattle.rules.specs.Plain.{_&_, zeros, andThen, every, keepIf, larger, largest, lastOf, only}
 use Rattle.rules.specs.Rewrite.{into}
-use Rattle.rules.specs.Sector.{encode, isData, isIndex, isPost, isRoot, le4, legal, put, rootEntry, sectorAt, word, indexEntry}
+use Rattle.rules.specs.Sector.{encode, isData, isIndex, isPost, isRoot, le4, put, rootEntry, sectorAt, indexEntry}
 use Rattle.rules.specs.Walk.{copyOf, follow, standing}
 use Rattle.rules.specs.Write.{accept, refuseIf, stampOn, stampOf}
 use Rattle.laws.proofs.Blocks.{blank-room}
 use Rattle.laws.proofs.Buckets.{raw, run-past}
-use Rattle.laws.proofs.Bytes.{Bytes, Fine, bytes-append, bytes-encode, bytes-le4, bytes-put}
+use Rattle.laws.proofs.Bytes.{Bytes, bytes-append, bytes-encode, bytes-le4, bytes-put, zero-bytes}
+use Rattle.laws.proofs.Entries.{Fine, root-fine, index-fine, dummy-fine}
 use Rattle.laws.proofs.Codec.{length-encode}
-use Rattle.laws.proofs.Heads.{limits-hold}
-use Rattle.laws.proofs.Into.{block-out}
+use Rattle.laws.proofs.Heads.{limits-hold, head-read, head-length}
 use Rattle.laws.proofs.Lists.{upper}
 use Rattle.laws.proofs.Plans.{not-false, passed}
 use Rattle.laws.proofs.Run.{blanks-agree, decode-put, run-agree}
 use Rattle.laws.proofs.Sectors.{length-put, sector-put-other, sector-put-same}
 use Rattle.laws.proofs.Tools.{and-true, le-or-lt}
-use Rattle.laws.proofs.Used.{get-zeros, run-blank, zeros-get}
-use Rattle.laws.proofs.Puts.{Chain, chain-more, into-chain}
+use Rattle.laws.proofs.Used.{run-blank}
 use Rattle.laws.proofs.Stamps.{stamp-blank}
-use Rattle.laws.proofs.Writes.{chain-top}
+use Rattle.laws.proofs.Writes.{chain-top, format-chain}
+use Rattle.laws.proofs.Zeros.{zero-sector}
+use Rattle.laws.proofs.Into.{block-blanks}
 use Rattle.tree.proofs.Keeps.{Keeps, now-ends}
 use Rattle.tree.proofs.Ready.{Fresh, Ready, fresh-bucket}
-use Rattle.tree.proofs.Root.{State}
-use Rattle.tree.proofs.Step.{root-fine}
+use Rattle.tree.proofs.State.{State}
 use Rattle.tree.proofs.Tree.{Tree}
-
-pub zero-bytes : (xs : List ℕ) → zeros xs ≡ true → Bytes xs
-unfolding zeros
-zero-bytes [] z = tt
-zero-bytes (zero ∷ xs) z = (omega arith, zero-bytes xs z)
-zero-bytes (suc x ∷ xs) z = absurd (let a = zeros-get (suc x ∷ xs) 0 z in omega arith)
-
-zero-drop : (n : ℕ) (xs : List ℕ) → zeros xs ≡ true → zeros (drop n xs) ≡ true
-zero-drop zero xs q = q
-zero-drop (suc n) [] q = q
-zero-drop (suc n) (x ∷ xs) q = zero-drop n xs (get-zeros xs (λ i. zeros-get (x ∷ xs) (suc i) q))
-
-zero-take : (n : ℕ) (xs : List ℕ) → zeros xs ≡ true → zeros (take n xs) ≡ true
-unfolding zeros
-zero-take zero xs q = refl
-zero-take (suc n) [] q = refl
-zero-take (suc n) (zero ∷ xs) q = zero-take n xs q
-zero-take (suc n) (suc x ∷ xs) q = absurd (let a = zeros-get (suc x ∷ xs) 0 q in omega arith)
-
-pub zero-sector : (card : List ℕ) (j : ℕ) → zeros card ≡ true → zeros (sectorAt card j) ≡ true
-unfolding sectorAt
-zero-sector card j z = zero-take 16 (drop (16 * j) card) (zero-drop (16 * j) card z)
-
-head-digits : (x : ℕ) → x ≤ 4096 → x % 256 + 256 * (x / 256 % 256) + 65536 * (x / 65536 % 256) + 16777216 * (x / 16777216) ≡ x
-head-digits x h = omega arith
-
--- the head's bytes are read back
-head-read : (h : Head) (len : ℕ) → limits h ≡ true → h .n ≤ 4096 → len ≡ sizeOf h → headIn (headBytes h 0) len ≡ some h
-unfolding headIn headBytes headFields word le4 zeros
-head-read h len l n4 e =
-    let f : headFields (headBytes h 0) ≡ h = λ i. record { m = h .m; td = h .td; ti = h .ti; n = head-digits (h .n) n4 i } in
-    rw (f, l, eq-eqb len (sizeOf h) e)
 
 abbrev idx : Entry
 idx = indexEntry 0 0 2
@@ -97,16 +65,12 @@ module _ (h : Head) (lim : limits h ≡ true) (card : List ℕ) (size : sizeOf h
   abbrev card2 : List ℕ
   card2 = put card1 1 (encode root)
 
-  length-head : length (headBytes h 0) ≡ 16
-  unfolding headBytes le4
-  length-head = refl
-
   big : 16 * (1 + (h .n + h .n * h .m)) ≡ length card
   unfolding sizeOf
   big = omega (arith, size)
 
   len1 : length card1 ≡ length card
-  len1 = length-put card 0 (headBytes h 0) length-head (omega (arith, big))
+  len1 = length-put card 0 (headBytes h 0) (head-length h) (omega (arith, big))
 
   len2 : length card2 ≡ length card
   len2 = length-put card1 1 (encode root) (length-encode root) (omega (arith, big, len1)) ∙ len1
@@ -136,7 +100,7 @@ module _ (h : Head) (lim : limits h ≡ true) (card : List ℕ) (size : sizeOf h
 
   -- what the format writes first leaves the rest as it was
   same1 : (j : ℕ) → 1 ≤ j → sectorAt card1 j ≡ sectorAt card j
-  same1 j lo = sector-put-other card 0 j (headBytes h 0) length-head (omega (arith, big)) (λ z. omega arith)
+  same1 j lo = sector-put-other card 0 j (headBytes h 0) (head-length h) (omega (arith, big)) (λ z. omega arith)
 
   same2 : (j : ℕ) → 2 ≤ j → sectorAt card2 j ≡ sectorAt card j
   same2 j lo = sector-put-other card1 1 j (encode root) (length-encode root) (omega (arith, big, len1)) (λ z. omega arith) ∙ same1 j (omega arith)
@@ -172,14 +136,6 @@ module _ (h : Head) (lim : limits h ≡ true) (card : List ℕ) (size : sizeOf h
       log-one zero e = absurd (omega arith)
       log-one (suc c) e = rw (decode-put (h .n) card1 root (fine-root .0) (fine-root .1) 1 1 refl (omega (arith, big, len1)), rest c (omega arith))
 
-  fine-idx : Fine (h .n) idx
-  unfolding legal
-  fine-idx = (record { kind = omega arith; key = omega arith; stamp = omega arith; value = omega arith }, le-leb 2 (h .n) n2)
-
-  fine-dummy : Fine (h .n) dummy
-  unfolding legal
-  fine-dummy = (record { kind = omega arith; key = omega arith; stamp = omega arith; value = omega arith }, refl)
-
   sound-idx : soundBucket (idx ∷ []) ≡ some (idx ∷ [])
   unfolding soundBucket every joins isIndex
   sound-idx = refl
@@ -195,14 +151,13 @@ module _ (h : Head) (lim : limits h ≡ true) (card : List ℕ) (size : sizeOf h
   card4 = into h 2 (dummy ∷ []) card3
 
   fb1 : Fresh h card2 card3 1 (idx ∷ [])
-  fb1 = fresh-bucket h card2 1 1 (idx ∷ []) ready2 (omega arith) (omega arith) (omega arith) (subst (λ z. 1 ≤ length z) (sym (rooms2 1)) room1) (fine-idx .0, fine-idx .1, tt) sound-idx
+  fb1 = fresh-bucket h card2 1 1 (idx ∷ []) ready2 (omega arith) (omega arith) (omega arith) (subst (λ z. 1 ≤ length z) (sym (rooms2 1)) room1) (index-fine (h .n) n2, tt) sound-idx
 
   rooms3 : blanksOf h card3 2 ≡ blanksOf h card2 2
-  unfolding blanksOf base
-  rooms3 = blanks-agree card3 card2 (base h 2) (h .m) (λ j a b. block-out h card2 (ready2 .size) 1 (omega arith) (omega arith) (idx ∷ []) j (inr (omega arith)))
+  rooms3 = block-blanks h card2 (ready2 .size) 1 (omega arith) (omega arith) (idx ∷ []) 2 (omega arith) (λ z. omega arith)
 
   fb2 : Fresh h card3 card4 2 (dummy ∷ [])
-  fb2 = fresh-bucket h card3 2 2 (dummy ∷ []) (fb1 .ready) (omega arith) (omega arith) (omega arith) (subst (λ z. 1 ≤ length z) (sym (rooms3 ∙ rooms2 2)) room2) (fine-dummy .0, fine-dummy .1, tt) sound-dummy
+  fb2 = fresh-bucket h card3 2 2 (dummy ∷ []) (fb1 .ready) (omega arith) (omega arith) (omega arith) (subst (λ z. 1 ≤ length z) (sym (rooms3 ∙ rooms2 2)) room2) (dummy-fine (h .n), tt) sound-dummy
 
   front4 : (j : ℕ) → j < 1 + h .n → sectorAt card4 j ≡ sectorAt card2 j
   front4 j lt = fb2 .front j lt ∙ fb1 .front j lt
@@ -212,7 +167,7 @@ module _ (h : Head) (lim : limits h ≡ true) (card : List ℕ) (size : sizeOf h
   head4 =
       ap₂ headIn
       (front4 0 (omega arith) ∙ sector-put-other card1 1 0 (encode root) (length-encode root) (omega (arith, big, len1)) (λ z. omega arith)
-      ∙ sector-put-same card 0 (headBytes h 0) length-head (omega (arith, big)))
+      ∙ sector-put-same card 0 (headBytes h 0) (head-length h) (omega (arith, big)))
       (sym (fb2 .ready .size))
       ∙ head-read h (sizeOf h) lim n4096 refl
 
@@ -244,14 +199,9 @@ module _ (h : Head) (lim : limits h ≡ true) (card : List ℕ) (size : sizeOf h
     tall = (2, dummy ∷ [], fb2 .here, omega arith, omega arith);
   }
 
-  chain4 : Chain h (λ d. d .stamp ≤ 0) card2 card4
-  chain4 = chain-more h (λ d. d .stamp ≤ 0) card2 card3 card4
-      (into-chain h (λ d. d .stamp ≤ 0) card2 (ready2 .size) 1 (omega arith) (omega arith) (idx ∷ []) ((fine-idx, omega arith), tt))
-      (into-chain h (λ d. d .stamp ≤ 0) card3 (fb1 .ready .size) 2 (omega arith) n2 (dummy ∷ []) ((fine-dummy, omega arith), tt))
-
   top4 : stampOn h card4 ≡ 0
   top4 =
-      let le = chain-top h 0 card2 card4 (ready2 .size) chain4 (λ j lo hi. let a = ap stampOf (same2 j (omega arith)) in let b = stamps0 j lo in omega arith) in
+      let le = chain-top h 0 card2 card4 (ready2 .size) (format-chain h card2 n2 (ready2 .size)) (λ j lo hi. let a = ap stampOf (same2 j (omega arith)) in let b = stamps0 j lo in omega arith) in
       omega arith
 
   pub begun : Keeps h card4 (λ t. nothing) 0 0
@@ -280,7 +230,8 @@ format-inv card h new q =
     (c .0, eqb-true (length card) (sizeOf h) (c .1), not-false (zeros card) (b .0), cc)
 
 -- a card that format makes of a blank one answers that nothing stands
-pub format-keeps : (card : List ℕ) (n m td ti : ℕ) (new : List ℕ) → format card n m td ti ≡ accept new → Keeps (meant n m td ti) new (λ t. nothing) 0 0
+pub format-keeps : (card : List ℕ) (n m td ti : ℕ) (new : List ℕ) → format card n m td ti ≡ accept new
+    → Keeps (meant n m td ti) new (λ t. nothing) 0 0
 unfolding format formatted blanksOf
 format-keeps card n m td ti new q =
     let h = meant n m td ti in

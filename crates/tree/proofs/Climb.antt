@@ -19,15 +19,14 @@ use Rattle.rules.specs.Walk.{Visit, copyOf, downTo, follow, go, goIn, met, path
 use Rattle.rules.specs.Write.{climb, placeIf}
 use Rattle.laws.proofs.Tools.{eq-or-ne, le-or-lt, true-and}
 use Rattle.laws.proofs.Lists.{All, all-append, all-map, copy-snoc-other, copy-snoc-same, follow-all, follow-gap, follow-le, upper, upper-gt, upper-le}
-use Rattle.laws.proofs.Blocks.{Good}
-use Rattle.laws.proofs.Bytes.{Fine}
+use Rattle.laws.proofs.Entries.{Good, Fine}
 use Rattle.laws.proofs.Fresh.{placeIf-fresh, climb-mono}
 use Rattle.laws.proofs.Heads.{Lim}
 use Rattle.tree.proofs.Tree.{Early, Kids, Reading, Shape, Span, Tree, tree-frame, tree-not, turn-data, turn-index}
-use Rattle.tree.proofs.Kids.{away, away-tree, kids-one, kids-two, same-upper}
+use Rattle.tree.proofs.Pairs.{away, away-tree, kids-one, kids-two, same-upper}
 use Rattle.tree.proofs.Content.{content-fresh}
-use Rattle.tree.proofs.Place.{Closed, One, Outcome, Two, Upto}
-use Rattle.tree.proofs.Placed.{Before, late-nil, place-level}
+use Rattle.tree.proofs.Outcome.{Closed, One, Outcome, Two}
+use Rattle.tree.proofs.Level.{Before, late-nil, place-level}
 use Rattle.tree.proofs.AsOf.{Late}
 use Rattle.tree.proofs.Ready.{Ready}
 
@@ -40,7 +39,8 @@ path-data : (rd : Reading) (g : ℕ → Option Entry) (t b lo hi x f : ℕ) (tr 
 unfolding path goIn go
 path-data rd g t b lo hi x f tr = rw (tr .1, turn-data t x lo hi (tr .0) (tr .2))
 
-path-index : (rd : Reading) (g : ℕ → Option Entry) (t : ℕ) → Early t rd → (k b lo hi x f : ℕ) (tr : Tree rd g (suc k) b lo hi) (d : Entry) → follow x (tr .0) ≡ some d
+path-index : (rd : Reading) (g : ℕ → Option Entry) (t : ℕ) → Early t rd → (k b lo hi x f : ℕ) (tr : Tree rd g (suc k) b lo hi) (d : Entry)
+    → follow x (tr .0) ≡ some d
     → path rd t x (suc f) b lo ≡ met (record { number = b; entries = tr .0 }) (path rd t x f (d .value) (d .key))
 unfolding path goIn go downTo
 path-index rd g t early k b lo hi x f tr d q = rw (tr .1, turn-index t x lo hi (tr .0) (tr .2), early b (tr .0) (tr .1), q)
@@ -87,8 +87,9 @@ Climbs h card g e f0 t k b lo hi f =
     × ((climb h (e .stamp) p (start card e f0)) .fresh ≤ h .n + 1 → Outcome h card g (upd g e) k b lo hi (e .stamp) (climb h (e .stamp) p (start card e f0)))
 
 module _ (h : Head) (lim : Lim h) (card : List ℕ) (g : ℕ → Option Entry) (t : ℕ) (early : Early t (bucket h card))
-    (e : Entry) (fine : Fine (h .n) e) (isd : (isIndex e ≡ false) × (isData e ≡ true)) (f0 : ℕ) (ready : Ready h card f0) (f1 : 1 ≤ f0) (upto : Upto (e .stamp) (bucket h card)) where
-  leaf-level : (b lo hi f : ℕ) (tr : Tree (bucket h card) g zero b lo hi) → lo < hi → hi ≤ 4294967296 → lo ≤ e .key → e .key < hi → Climbs h card g e f0 t zero b lo hi (suc f)
+    (e : Entry) (fine : Fine (h .n) e) (isd : (isIndex e ≡ false) × (isData e ≡ true)) (f0 : ℕ) (ready : Ready h card f0) (f1 : 1 ≤ f0) where
+  leaf-level : (b lo hi f : ℕ) (tr : Tree (bucket h card) g zero b lo hi) → lo < hi → hi ≤ 4294967296 → lo ≤ e .key → e .key < hi
+      → Climbs h card g e f0 t zero b lo hi (suc f)
   unfolding climb placeIf every
   leaf-level b lo hi f tr lt h32 le lh = (
     record { number = b; entries = tr .0 } ∷ [],
@@ -100,9 +101,6 @@ module _ (h : Head) (lim : Lim h) (card : List ℕ) (g : ℕ → Option Entry) (
           front1 = λ j lt. refl;
           late = true-and (le-leb (e .stamp) (e .stamp) (omega arith)) refl;
           added = inl (e, copy-snoc-same (e .key) (tr .0) e refl, refl, isd .1);
-          stays1 = λ j z. refl;
-          upto1 = upto;
-          stamps = (omega arith, tt);
           ready1 = ready;
           fresh1 = f1;
           here = tr .1;
@@ -111,7 +109,7 @@ module _ (h : Head) (lim : Lim h) (card : List ℕ) (g : ℕ → Option Entry) (
           heads = tr .2 .0;
           shape = shape-snoc (tr .0) (tr .2);
           content = vals-snoc g lo hi (tr .0) e (tr .3);
-          good = (fine .0, fine .1, tt);
+          good = (fine, tt);
           atmost = omega arith;
         }),
   )
@@ -140,7 +138,8 @@ module _ (h : Head) (lim : Lim h) (card : List ℕ) (g : ℕ → Option Entry) (
         sym (rw (ne-eqb (e .key) x (λ z. ⊎-elim (λ q. omega arith) (λ q. omega arith) o)))
 
     -- below, a bucket was changed
-    closed-up : (card' : List ℕ) (f : ℕ) → Closed h card card' g (upd g e) k (d .value) (d .key) u (e .stamp) f → Closed h card card' g (upd g e) (suc k) b lo hi (e .stamp) f
+    closed-up : (card' : List ℕ) (f : ℕ) → Closed h card card' g (upd g e) k (d .value) (d .key) u (e .stamp) f
+        → Closed h card card' g (upd g e) (suc k) b lo hi (e .stamp) f
     closed-up card' f c =
         let w = c .within in
         let span = follow-all (Span true lo hi) (e .key) es d (tr .2 .1) sd in
@@ -150,9 +149,7 @@ module _ (h : Head) (lim : Lim h) (card : List ℕ) (g : ℕ → Option Entry) (
           ready = c .ready;
           front = c .front;
           grows = c .grows;
-          upto = c .upto;
           mark = c .mark;
-          stays = c .stays;
           spot = c .spot;
           height = c .height;
           low = c .low;
@@ -208,16 +205,13 @@ module _ (h : Head) (lim : Lim h) (card : List ℕ) (g : ℕ → Option Entry) (
         let kids1 = content-fresh (bucket h card) rd1 g (o .opened .same) (suc k) lo hi es (tr .3) in
         let sp : All (Span true lo hi) (p ∷ []) = ((pr .1, omega arith, omega arith, pr .1), tt) in
         let t1 : Tree rd1 (upd g e) k (p .value) (p .key) u = rw pk (o .tree1) in
-        let gd : Good (h .n) (p ∷ []) = (pr .2 .0, pr .2 .1, tt) in
+        let gd : Good (h .n) (p ∷ []) = (pr .2, tt) in
         record {
           lim = lim;
           same1 = o .opened .same;
           front1 = o .opened .front;
           late = subst (Late (e .stamp)) (sym hand) (late-pair p [] (pr .3) (late-nil (e .stamp)));
           added = inr (o .opened .mark);
-          stays1 = o .opened .stays;
-          upto1 = o .opened .upto;
-          stamps = subst (All (λ z. z .stamp ≤ e .stamp)) (sym hand) (let z = pr .3 in (omega arith, tt));
           ready1 = o .opened .ready;
           fresh1 = lf;
           here = tr .1;
@@ -243,16 +237,13 @@ module _ (h : Head) (lim : Lim h) (card : List ℕ) (g : ℕ → Option Entry) (
         let kids1 = content-fresh (bucket h card) rd1 g (o .opened .same) (suc k) lo hi es (tr .3) in
         let sp : All (Span true lo hi) (p ∷ q ∷ []) = ((pr .1, omega arith, omega arith, pr .1), ((qr .1, omega arith, omega arith, qr .1), tt)) in
         let t1 : Tree rd1 (upd g e) k (p .value) (p .key) (q .key) = rw pk (o .tree1) in
-        let gd : Good (h .n) (p ∷ q ∷ []) = (pr .2 .0, pr .2 .1, (qr .2 .0, qr .2 .1, tt)) in
+        let gd : Good (h .n) (p ∷ q ∷ []) = (pr .2, (qr .2, tt)) in
         record {
           lim = lim;
           same1 = o .opened .same;
           front1 = o .opened .front;
           late = subst (Late (e .stamp)) (sym hand) (late-pair p (q ∷ []) (pr .3) (late-pair q [] (qr .3) (late-nil (e .stamp))));
           added = inr (o .opened .mark);
-          stays1 = o .opened .stays;
-          upto1 = o .opened .upto;
-          stamps = subst (All (λ z. z .stamp ≤ e .stamp)) (sym hand) (let z = pr .3 in let y = qr .3 in (omega arith, (omega arith, tt)));
           ready1 = o .opened .ready;
           fresh1 = lf;
           here = tr .1;

@@ -1,4 +1,4 @@
--- What the entries of a bucket say, for a data and an index bucket alike.
+-- What the entries of a bucket hold, for a data and an index bucket alike.
 use mathlib.Core.Path.{_∙_, _≡_, ap, refl, subst, sym}
 use mathlib.Core.Logic.{inr}
 use mathlib.Core.Bool.{Bool, false, not, true}
@@ -17,7 +17,7 @@ use Rattle.rules.specs.Walk.{copyOf, follow, standing}
 use Rattle.laws.proofs.Tools.{true-and, true-false}
 use Rattle.laws.proofs.Lists.{All, all-map, follow-gap, follow-le, upper, upper-gt}
 use Rattle.laws.proofs.Copies.{Says, copies-says}
-use Rattle.laws.proofs.Halves.{Sorted, copies-all, copies-sorted, copy-high, copy-low, follow-high, follow-low, follow-some, only-every, standing-only, upper-high, upper-low}
+use Rattle.laws.proofs.Halves.{Sorted, copies-all, copies-sorted, copy-high, copy-low, follow-high, follow-low, follow-some, only-every, standing-only, upper-high, upper-low, sorted-low, sorted-high}
 use Rattle.tree.proofs.Tree.{Kids, Reading, Shape, Span, Tree, tree-frame, tree-fresh}
 
 abbrev pub isIdx : ℕ → Bool
@@ -39,7 +39,8 @@ tree-parts rd g zero b lo hi tr = tr
 tree-parts rd g (suc k) b lo hi tr = tr
 
 -- a list that says the same has the same content
-pub content-says : (rd : Reading) (g : ℕ → Option Entry) (k lo hi : ℕ) (ls bs : List Entry) → Says ls bs → Content rd g k bs lo hi → Content rd g k ls lo hi
+pub content-says : (rd : Reading) (g : ℕ → Option Entry) (k lo hi : ℕ) (ls bs : List Entry) → Says ls bs → Content rd g k bs lo hi
+    → Content rd g k ls lo hi
 content-says rd g zero lo hi ls bs s c = λ x p q. ap standing (s .copies x) ∙ c x p q
 content-says rd g (suc k) lo hi ls bs s c = λ x p q.
     let d = c x p q in (d .0, s .follows x ∙ d .1, rw (s .uppers x hi) (d .2))
@@ -73,19 +74,6 @@ content-kept rd g (suc k) lo hi hk s es sh c =
     let same : only (keeps hk s) (lastCopies es) ≡ lastCopies es = only-every (keeps hk s) (lastCopies es)
     (all-map (Span true lo hi) (λ e. keeps hk s e ≡ true) (λ e z. keeps-index hk s e (z .0)) (lastCopies es) (copies-all (Span true lo hi) es (sh .1))) in
     subst (λ l. Content rd g (suc k) l lo hi) (sym same) c1
-
--- a list in key order, taken apart before d
-all-at : (P : Entry → Type 0) (ls : List Entry) (d : Entry) (bs : List Entry) → All P (ls ++ (d ∷ bs)) → P d
-all-at P [] d bs a = a .0
-all-at P (e ∷ ls) d bs a = all-at P ls d bs (a .1)
-
-pub sorted-low : (ls : List Entry) (d : Entry) (bs : List Entry) → Sorted (ls ++ (d ∷ bs)) → All (λ e. e .key < d .key) ls
-sorted-low [] d bs s = tt
-sorted-low (e ∷ ls) d bs s = (all-at (λ c. e .key < c .key) ls d bs (s .0), sorted-low ls d bs (s .1))
-
-pub sorted-high : (ls : List Entry) (d : Entry) (bs : List Entry) → Sorted (ls ++ (d ∷ bs)) → All (λ e. d .key < e .key) bs
-sorted-high [] d bs s = s .0
-sorted-high (e ∷ ls) d bs s = sorted-high ls d bs (s .1)
 
 pub content-low : (rd : Reading) (g : ℕ → Option Entry) (k lo hi : ℕ) (ls : List Entry) (d : Entry) (bs : List Entry)
     → Sorted (ls ++ (d ∷ bs)) → d .key < hi → Content rd g k (ls ++ (d ∷ bs)) lo hi → Content rd g k ls lo (d .key)

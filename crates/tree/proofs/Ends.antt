@@ -15,7 +15,7 @@ use Rattle.rules.specs.Plain.{only, smaller, smallest}
 use Rattle.rules.specs.Sector.{isIndex}
 use Rattle.rules.specs.Walk.{Visit, copyOf, dataOf, downTo, go, goIn, left, met, path, standing, standsOn}
 use Rattle.laws.proofs.Halves.{only-every, only-none}
-use Rattle.laws.proofs.Lists.{All, all-map, follow-all, follow-le, only-all, only-append, only-true, upper, upper-all, upper-gt, upper-le}
+use Rattle.laws.proofs.Lists.{All, all-map, follow-all, follow-le, only-all, only-append, only-true, upper, upper-all, upper-gt, upper-le, all-both}
 use Rattle.laws.proofs.Tools.{le-or-lt}
 use Rattle.tree.proofs.AsOf.{Alike}
 use Rattle.tree.proofs.Walks.{alike-data, alike-index}
@@ -73,10 +73,6 @@ small-append-some (d ∷ ls) bs e q a = ap (smaller d) (small-append-some ls bs 
 no-index : (x t : ℕ) (es : List Entry) → only isIndex es ≡ [] → smallest (above x (left t (only isIndex es ++ []))) ≡ none
 unfolding smallest only left
 no-index x t es e = ap (λ z. smallest (above x (left t (z ++ [])))) e
-
-pub all-both : (P Q : Entry → Type 0) (es : List Entry) → All P es → All Q es → All (λ e. P e × Q e) es
-all-both P Q [] a b = tt
-all-both P Q (e ∷ es) a b = ((a .0, b .0), all-both P Q es (a .1) (b .1))
 
 least-up : (x t : ℕ) (es rest : List Entry) (high hi : ℕ) → left t es ≡ es → only isIndex es ≡ es → All (λ e. e .key < hi) es
     → Least x (left t rest) high (upper x es hi) → Least x (left t (only isIndex es ++ rest)) high hi

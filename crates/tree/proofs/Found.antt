@@ -1,4 +1,4 @@
--- In a data bucket: the smallest standing bib above k.
+-- The smallest standing bib above k, in a list of entries.
 use mathlib.Core.Path.{_∙_, _≡_, ap, refl, subst, sym}
 use mathlib.Core.Logic.{_⊎_, inl, inr, ⊎-elim}
 use mathlib.Core.Bool.{Bool, false, true}
@@ -13,10 +13,9 @@ use Rattle.rules.specs.Next.{lasts, standingAbove}
 use Rattle.rules.specs.Plain.{_&_, if, isNone, keepIf, lastOf, only, smaller, smallest}
 use Rattle.rules.specs.Sector.{isPost}
 use Rattle.rules.specs.Walk.{copyOf, standing}
-use Rattle.laws.proofs.Tools.{and-true, none-some, true-and}
-use Rattle.laws.proofs.Lists.{All, all-map, only-all, only-back, only-true}
+use Rattle.laws.proofs.Tools.{and-true, none-some, true-and, le-or-lt, eq-or-ne}
+use Rattle.laws.proofs.Lists.{All, all-map, only-all, only-back, only-true, copy-all, last-all}
 use Rattle.laws.proofs.Copies.{copy-cons, cstep}
-use Rattle.tree.proofs.Place.{copy-all, last-all}
 use Rattle.tree.proofs.Ends.{smaller-pick}
 
 -- a copy has the key
@@ -184,3 +183,21 @@ data-next g k low high es bound content = go (smallest (only (wants k) (lasts es
               (all-map (λ d. wants k d ≡ true → e .key ≤ d .key) (λ d. wants k d ≡ true → d .key ≡ y → ⊥) (λ d f v z. let m = f v in omega arith) (lasts es)
               (only-back (λ d. e .key ≤ d .key) (wants k) (lasts es) (smallest-le (only (wants k) (lasts es)) e q))),
         )
+
+-- that settles it
+pub found-one : (g : ℕ → Option Entry) (k high : ℕ) (r q : Option Entry) → Found g k 0 high r → Found g k 0 high q → r ≡ q
+found-one g k high r q (inl a) (inl b) = a .0 ∙ sym (b .0)
+found-one g k high r q (inl a) (inr b) = absurd (none-some (sym (a .1 (b .0 .key) (omega arith) (b .3) (b .2)) ∙ b .4))
+found-one g k high r q (inr a) (inl b) = absurd (none-some (sym (b .1 (a .0 .key) (omega arith) (a .3) (a .2)) ∙ a .4))
+found-one g k high r q (inr a) (inr b) =
+    ⊎-elim
+    (λ (le : a .0 .key ≤ b .0 .key). ⊎-elim
+    (λ (e : a .0 .key ≡ b .0 .key). a .1 ∙ sym (a .4) ∙ ap g e ∙ b .4 ∙ sym (b .1))
+    (λ (n : a .0 .key ≡ b .0 .key → ⊥). absurd (none-some (sym (b .5 (a .0 .key) (omega arith) (a .2) (omega arith)) ∙ a .4)))
+    (eq-or-ne (a .0 .key) (b .0 .key)))
+    (λ (gt : b .0 .key < a .0 .key). absurd (none-some (sym (a .5 (b .0 .key) (omega arith) (b .2) gt) ∙ b .4)))
+    (le-or-lt (a .0 .key) (b .0 .key))
+
+pub found-ext : (g g' : ℕ → Option Entry) (k low high : ℕ) (r : Option Entry) → ((x : ℕ) → g x ≡ g' x) → Found g k low high r → Found g' k low high r
+found-ext g g' k low high r same (inl a) = inl (a .0, λ y l h ky. sym (same y) ∙ a .1 y l h ky)
+found-ext g g' k low high r same (inr a) = inr (a .0, a .1, a .2, a .3, sym (same (a .0 .key)) ∙ a .4, λ y l ky ye. sym (same y) ∙ a .5 y l ky ye)

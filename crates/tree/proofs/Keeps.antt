@@ -24,16 +24,17 @@ use Rattle.laws.proofs.Heads.{head-facts}
 use Rattle.laws.proofs.Lists.{All, all-append, all-map}
 use Rattle.laws.proofs.Plans.{plan-inv}
 use Rattle.laws.proofs.Tools.{le-or-lt}
-use Rattle.laws.proofs.Writes.{Asks, asks-kind, asks-stamp, asks-small, asks-fine, top-after}
+use Rattle.laws.proofs.Entries.{Asks, asks-kind, asks-stamp, asks-small, asks-fine}
+use Rattle.laws.proofs.Writes.{top-after}
 use Rattle.laws.proofs.Fresh.{freshAfter}
 use Rattle.laws.proofs.Stamps.{bucket-stamps}
 use Rattle.tree.proofs.Walks.{walk-late}
 use Rattle.tree.proofs.Climb.{upd}
 use Rattle.tree.proofs.Hops.{NextIs, next-loop}
 use Rattle.tree.proofs.Ends.{Ends, tree-ends, ends-alike, ends-ext}
-use Rattle.tree.proofs.Place.{Mark}
-use Rattle.tree.proofs.Root.{State, state-walk}
-use Rattle.tree.proofs.Step.{Wrote, write-step}
+use Rattle.tree.proofs.Outcome.{Mark}
+use Rattle.tree.proofs.State.{State, state-walk}
+use Rattle.tree.proofs.Write.{Wrote, write-step}
 use Rattle.tree.proofs.Tree.{some-inj, Early}
 
 -- what stands as of each stamp, with one accepted entry more
@@ -61,7 +62,8 @@ early-upto : (h : Head) (card : List ℕ) (t : ℕ) → sizeOf h ≡ length card
 early-upto h card t size le c cs q = left-upto t cs (bucket-stamps h card size t le c cs q)
 
 -- as of a stamp that nothing is after, a card in order gives what its tree holds
-pub now-ends : (h : Head) (card : List ℕ) (g : ℕ → Option Entry) (k : ℕ) (st : State h card g k) (t : ℕ) → stampOn h card ≤ t → All (λ e. e .stamp ≤ t) (st .logs)
+pub now-ends : (h : Head) (card : List ℕ) (g : ℕ → Option Entry) (k : ℕ) (st : State h card g k) (t : ℕ) → stampOn h card ≤ t
+    → All (λ e. e .stamp ≤ t) (st .logs)
     → (x : ℕ) → x < 4294967296 → (p : List Visit) × (walk h card t x ≡ some p) × Ends g t x 0 4294967296 p
 unfolding walk pathIn pathFrom
 now-ends h card g k st t up lu x lt =
@@ -90,16 +92,14 @@ module _ (h : Head) (card : List ℕ) (g : ℕ → ℕ → Option Entry) (begin 
       (a .0, a .1)
 
   -- a write whose stamp is above every one
-  keeps-write : 1 ≤ e .key → s < e .stamp
+  pub keeps-write : 1 ≤ e .key → s < e .stamp
       → ((new : List ℕ) → planOn h card e (write-walk .0) ≡ accept new → Wrote h card new (upd (ke .now) e) (e .stamp) (ke .state .logs))
       × (freshAfter h card e (write-walk .0) ≤ h .n + 1 → (new : List ℕ) × (planOn h card e (write-walk .0) ≡ accept new))
   keeps-write key above =
       let st = ke .state in
       let top = ke .top in
-      let hf = head-facts card h (st .head) in
       let w = write-walk in
-      let step = write-step h card (ke .now) (ke .height) st e (asks-fine (h .n) e asks key (omega arith)) (asks-kind e asks)
-      (bucket-stamps h card (hf .1) (e .stamp) (omega arith)) in
+      let step = write-step h card (ke .now) (ke .height) st e (asks-fine (h .n) e asks key (omega arith)) (asks-kind e asks) in
       let same : step .0 ≡ w .0 = some-inj (sym (step .1) ∙ sym (state-walk h card (ke .now) (ke .height) st (e .key)) ∙ w .1) in
       subst (λ p. ((new : List ℕ) → planOn h card e p ≡ accept new → Wrote h card new (upd (ke .now) e) (e .stamp) (ke .state .logs))
       × (freshAfter h card e p ≤ h .n + 1 → (new : List ℕ) × (planOn h card e p ≡ accept new))) same (step .2, step .3)
@@ -156,7 +156,8 @@ module _ (h : Head) (card : List ℕ) (g : ℕ → ℕ → Option Entry) (begin 
       }
 
 -- next: the smallest bib above k that stands as of t, or the end
-pub keeps-next : (h : Head) (card : List ℕ) (g : ℕ → ℕ → Option Entry) (begin s : ℕ) → Keeps h card g begin s → (k t : ℕ) → begin ≤ t → k < 4294967296 → NextIs (g t) k (next card k t)
+pub keeps-next : (h : Head) (card : List ℕ) (g : ℕ → ℕ → Option Entry) (begin s : ℕ) → Keeps h card g begin s → (k t : ℕ) → begin ≤ t → k < 4294967296
+    → NextIs (g t) k (next card k t)
 unfolding next nextIn
 keeps-next h card g begin s ke k t le lt =
     rw (ke .state .head)

@@ -12,10 +12,10 @@ use Rattle.rules.specs.Layout.{sizeOf}
 use Rattle.rules.specs.Rewrite.{into}
 use Rattle.rules.specs.Sector.{sectorAt}
 use Rattle.rules.specs.Write.{topUsed}
-use Rattle.laws.proofs.Blocks.{Good}
+use Rattle.laws.proofs.Entries.{Good}
 use Rattle.laws.proofs.Buckets.{bucket-raw, bucket-within, raw, raw-bucket}
 use Rattle.laws.proofs.Bytes.{Bytes, bytes-fill}
-use Rattle.laws.proofs.Into.{Stays, block-else, block-size, block-raw, block-whole, block-stays, block-front, block-others}
+use Rattle.laws.proofs.Into.{block-else, block-size, block-raw, block-whole, block-front, block-others}
 use Rattle.laws.proofs.Tools.{none-some}
 use Rattle.laws.proofs.Used.{top-raw}
 
@@ -28,13 +28,13 @@ pub record Ready (h : Head) (card : List ℕ) (f : ℕ) : Type 0 where
 -- a fresh bucket is filled
 pub record Fresh (h : Head) (card card' : List ℕ) (b : ℕ) (ks : List Entry) : Type 0 where
   pub ready : Ready h card' (b + 1)
-  pub stays : Stays card card'
   pub front : (j : ℕ) → j < 1 + h .n → sectorAt card' j ≡ sectorAt card j
   pub here : bucket h card' b ≡ some ks
   pub others : (c : ℕ) → (c ≡ b → ⊥) → bucket h card' c ≡ bucket h card c
   pub same : (c : ℕ) (cs : List Entry) → bucket h card c ≡ some cs → bucket h card' c ≡ some cs
 
-pub fresh-bucket : (h : Head) (card : List ℕ) (f b : ℕ) (ks : List Entry) → Ready h card f → f ≤ b → 1 ≤ b → b ≤ h .n → length ks ≤ length (blanksOf h card b)
+pub fresh-bucket : (h : Head) (card : List ℕ) (f b : ℕ) (ks : List Entry) → Ready h card f → f ≤ b → 1 ≤ b → b ≤ h .n
+    → length ks ≤ length (blanksOf h card b)
     → Good (h .n) ks → soundBucket ks ≡ some ks → Fresh h card (into h b ks card) b ks
 unfolding soundBucket into
 fresh-bucket h card f b ks rdy fb lo hi room good sound =
@@ -46,7 +46,6 @@ fresh-bucket h card f b ks rdy fb lo hi room good sound =
         blank = λ c p q. block-else h card (rdy .size) b lo hi ks c (omega arith) (λ z. omega arith) ∙ rdy .blank c (omega arith) q;
         whole = block-whole h card (rdy .size) b lo hi ks [] good room bl (rdy .whole);
       };
-      stays = block-stays h card (rdy .size) b lo hi ks;
       front = block-front h card (rdy .size) b lo hi ks;
       others = block-others h card (rdy .size) b lo hi ks;
       here = raw-bucket h (into h b ks card) b ks lo (block-raw h card (rdy .size) b lo hi ks [] good room bl) sound;
@@ -59,7 +58,6 @@ fresh-bucket h card f b ks rdy fb lo hi room good sound =
 -- entries are added to a bucket
 pub record Joined (h : Head) (card card' : List ℕ) (f b : ℕ) (es : List Entry) : Type 0 where
   pub ready : Ready h card' f
-  pub stays : Stays card card'
   pub front : (j : ℕ) → j < 1 + h .n → sectorAt card' j ≡ sectorAt card j
   pub here : bucket h card' b ≡ some es
   pub others : (c : ℕ) → (c ≡ b → ⊥) → bucket h card' c ≡ bucket h card c
@@ -81,12 +79,12 @@ join-bucket h card f b es new rdy lf q fits good sound =
             none-some (ap soundBucket (sym e) ∙ r .2)) ∙ rdy .blank c p z;
         whole = block-whole h card (rdy .size) b (r .0) hi new es good fits (r .1) (rdy .whole);
       };
-      stays = block-stays h card (rdy .size) b (r .0) hi new;
       front = block-front h card (rdy .size) b (r .0) hi new;
       others = block-others h card (rdy .size) b (r .0) hi new;
       here = raw-bucket h (into h b new card) b (es ++ new) (r .0) (block-raw h card (rdy .size) b (r .0) hi new es good fits (r .1)) sound;
     }
 
 -- so the card is ready from one past it
-pub ready-top : (h : Head) (card : List ℕ) → Bytes card → sizeOf h ≡ length card → ((c : ℕ) → 1 ≤ c → (es : List Entry) × (raw h card c ≡ some es)) → Ready h card (topUsed h card (h .n) + 1)
+pub ready-top : (h : Head) (card : List ℕ) → Bytes card → sizeOf h ≡ length card → ((c : ℕ) → 1 ≤ c → (es : List Entry) × (raw h card c ≡ some es))
+    → Ready h card (topUsed h card (h .n) + 1)
 ready-top h card bytes size whole = record { bytes = bytes; size = size; blank = λ c p q. top-raw h card c (omega arith) q; whole = whole }

@@ -1,4 +1,4 @@
--- The tree of buckets: what it is, that a walk in it arrives, and what a change of one bucket leaves of it.
+-- The tree of buckets: what it is, and what a change of one bucket leaves of it.
 use mathlib.Core.Path.{_∙_, _≡_, ap, refl, subst, sym}
 use mathlib.Core.Logic.{_⊎_, inl, inr, ⊎-elim}
 use mathlib.Core.Bool.{Bool, false, true}
@@ -10,7 +10,7 @@ use lib.ListN.{length}
 use borrow.Author.Tests.{eq-eqb}
 use Rattle.rules.specs.declared.Entry.{Entry}
 use Rattle.rules.specs.Sector.{isData, isIndex}
-use Rattle.rules.specs.Walk.{Visit, arrived, copyOf, dataOf, downTo, follow, go, goIn, left, met, path, standing, turn}
+use Rattle.rules.specs.Walk.{Visit, arrived, copyOf, dataOf, downTo, follow, go, left, standing, turn}
 use Rattle.laws.proofs.Tools.{true-false}
 use Rattle.laws.proofs.Lists.{All, follow-all, follow-le, upper, upper-gt, upper-le}
 
@@ -63,29 +63,6 @@ unfolding dataOf
 data-cons v [] h q = absurd (omega arith)
 data-cons v (w ∷ p) h q = refl
 
--- a walk arrives, after h index buckets, at what g says
-abbrev pub Arrives : (ℕ → Option Entry) → ℕ → ℕ → ℕ → Option (List Visit) → Type 0
-Arrives g t x h r = (p : List Visit) × (r ≡ some p) × (length p ≡ suc h) × (standing (copyOf x (left t (dataOf p))) ≡ g x)
-
-pub tree-path : (rd : Reading) (g : ℕ → Option Entry) (t : ℕ) → Early t rd → (h b lo hi : ℕ) → Tree rd g h b lo hi
-    → (x : ℕ) → lo ≤ x → x < hi → (f : ℕ) → h < f → Arrives g t x h (path rd t x f b lo)
-unfolding path goIn go met downTo dataOf
-tree-path rd g t early h b lo hi tr x p q zero lt = absurd (omega arith)
-tree-path rd g t early zero b lo hi tr x p q (suc f) lt =
-    rw (tr .1, turn-data t x lo hi (tr .0) (tr .2))
-    (record { number = b; entries = tr .0 } ∷ [], refl, refl, rw (early b (tr .0) (tr .1)) (tr .3 x p q))
-tree-path rd g t early (suc h) b lo hi tr x p q (suc f) lt =
-    let c = tr .3 x p q in
-    let e = c .0 in
-    let le = follow-le x (tr .0) e (c .1) in
-    let ih = tree-path rd g t early h (e .value) (e .key) (upper x (tr .0) hi) (c .2) x le (upper-gt x (tr .0) hi q) f (omega arith) in
-    rw (tr .1, turn-index t x lo hi (tr .0) (tr .2), early b (tr .0) (tr .1), c .1, ih .1) (
-      record { number = b; entries = tr .0 } ∷ ih .0,
-      refl,
-      ap suc (ih .2),
-      rw (data-cons (record { number = b; entries = tr .0 }) (ih .0) h (ih .2)) (ih .3),
-    )
-
 -- a tree stands where every bucket that could be read is read alike
 pub tree-fresh : (rd rd' : Reading) (g : ℕ → Option Entry) → ((b : ℕ) (es : List Entry) → rd b ≡ some es → rd' b ≡ some es)
     → (h b lo hi : ℕ) → Tree rd g h b lo hi → Tree rd' g h b lo hi
@@ -98,7 +75,8 @@ tree-fresh rd rd' g same (suc h) b lo hi tr = (
 )
 
 -- it holds what is the same on its keys
-pub tree-ext : (rd : Reading) (g g' : ℕ → Option Entry) (h b lo hi : ℕ) → ((x : ℕ) → lo ≤ x → x < hi → g x ≡ g' x) → Tree rd g h b lo hi → Tree rd g' h b lo hi
+pub tree-ext : (rd : Reading) (g g' : ℕ → Option Entry) (h b lo hi : ℕ) → ((x : ℕ) → lo ≤ x → x < hi → g x ≡ g' x) → Tree rd g h b lo hi
+    → Tree rd g' h b lo hi
 tree-ext rd g g' zero b lo hi same tr = (tr .0, tr .1, tr .2, λ x p q. tr .3 x p q ∙ same x p q)
 tree-ext rd g g' (suc h) b lo hi same tr = (
   tr .0,

@@ -16,7 +16,7 @@ use Rattle.rules.specs.Walk.{Visit, left, pathFrom, pathIn, walk, dataOf}
 use Rattle.laws.proofs.Lists.{only-append}
 use Rattle.laws.proofs.Tools.{none-some}
 use Rattle.tree.proofs.AsOf.{Again, Alike, Grows, left-late, path-late}
-use Rattle.tree.proofs.Step.{Wrote}
+use Rattle.tree.proofs.Write.{Wrote}
 
 from-late : (t s x : ℕ) (rd rd' : ℕ → Option (List Entry)) (f : ℕ) (r : Option Entry) (p : List Visit) → t < s → Grows s rd rd'
     → pathFrom rd t x f r ≡ some p → Again t (pathFrom rd' t x f r) p
@@ -67,7 +67,8 @@ unfolding only
 only-comm p q [] = refl
 only-comm p q (e ∷ es) = go (p e) (q e) refl refl (only-comm p q es)
   where
-    go : (a b : Bool) → p e ≡ a → q e ≡ b → only p (only q es) ≡ only q (only p es) → only p (keepIf b e (only q es)) ≡ only q (keepIf a e (only p es))
+    go : (a b : Bool) → p e ≡ a → q e ≡ b → only p (only q es) ≡ only q (only p es)
+        → only p (keepIf b e (only q es)) ≡ only q (keepIf a e (only p es))
     go true true x y ih = rw (x, y) (ap {B = List Entry} (λ z. e ∷ z) ih)
     go true false x y ih = rw y ih
     go false true x y ih = rw x ih

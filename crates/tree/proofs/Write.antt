@@ -1,4 +1,4 @@
--- An accepted write takes a card in order to a card in order that holds the new entry, and adds only what is stamped with it.
+-- An accepted write takes a card in order to a card in order that holds the new entry; it is accepted if the fresh buckets needed remain.
 use mathlib.Core.Path.{_∙_, _≡_, ap, refl, subst, sym}
 use mathlib.Core.Logic.{inl, inr}
 use mathlib.Core.Bool.{false, true, Bool}
@@ -15,28 +15,27 @@ use Rattle.rules.specs.Bucket.{blanksOf, bucket, log, logBlanks}
 use Rattle.rules.specs.Layout.{base, sizeOf}
 use Rattle.rules.specs.Plain.{every}
 use Rattle.rules.specs.Rewrite.{Rise, fill, into, oneBucket}
-use Rattle.rules.specs.Sector.{isData, isIndex, isRoot, legal, rootEntry, sectorAt}
+use Rattle.rules.specs.Sector.{isData, isIndex, isRoot, rootEntry, sectorAt}
 use Rattle.rules.specs.Walk.{Visit, path}
 use Rattle.rules.specs.Write.{accept, climb, finish, logFull, logged, planOn, rooted, topUsed, refuseIf, checked}
 use Rattle.laws.proofs.Tools.{true-and, true-false}
 use Rattle.laws.proofs.Lists.{All, last-snoc}
 use Rattle.laws.proofs.Blocks.{blank-room}
-use Rattle.laws.proofs.Bytes.{Fine}
+use Rattle.laws.proofs.Entries.{Fine, root-fine}
 use Rattle.laws.proofs.Buckets.{bucket-raw, bucket-within}
 use Rattle.laws.proofs.Fresh.{rooted-fresh, climb-mono, New, climb-new, freshAfter}
 use Rattle.laws.proofs.Heads.{Lim, head-facts, head-same}
-use Rattle.laws.proofs.Into.{Stays, stays-trans}
 use Rattle.laws.proofs.Plans.{checked-inv}
 use Rattle.laws.proofs.Used.{used-top}
 use Rattle.laws.proofs.Blanks.{blanks-left}
 use Rattle.tree.proofs.AsOf.{Grows, Late}
 use Rattle.tree.proofs.Tree.{Shape, Tree, tree-fresh}
 use Rattle.tree.proofs.Content.{shape-sound, tree-parts}
-use Rattle.tree.proofs.Place.{Closed, Mark, One, Open, Outcome, Two, Upto, upto-step}
-use Rattle.tree.proofs.Placed.{late-nil}
+use Rattle.tree.proofs.Outcome.{Closed, Mark, One, Open, Outcome, Two}
+use Rattle.tree.proofs.Level.{late-nil}
 use Rattle.tree.proofs.Climb.{climb-tree, start, upd}
-use Rattle.tree.proofs.LogStep.{log-step, log-raw}
-use Rattle.tree.proofs.Root.{State, early-max, kids-pair, log-blanks-same, log-same}
+use Rattle.tree.proofs.Log.{log-step, log-raw}
+use Rattle.tree.proofs.State.{State, early-max, kids-pair, log-blanks-same, log-same}
 use Rattle.tree.proofs.Ready.{fresh-bucket, ready-top}
 
 -- what an accepted write with the stamp s gives
@@ -44,18 +43,13 @@ pub record Wrote (h : Head) (card card' : List ℕ) (g' : ℕ → Option Entry) 
   pub height : ℕ
   pub state : State h card' g' height
   pub grows : Grows s (bucket h card) (bucket h card')
-  pub upto : Upto s (bucket h card')
   pub mark : Mark s (bucket h card')
-  pub stays : Stays card card'
   pub new-log : List Entry
   pub log-grows : (log h card' ≡ some (lg ++ new-log)) × Late s new-log × All (λ e. e .stamp ≤ s) new-log
 
-all-grows : (h : Head) (card card' : List ℕ) (s : ℕ) → ((c : ℕ) (cs : List Entry) → bucket h card c ≡ some cs → bucket h card' c ≡ some cs) → Grows s (bucket h card) (bucket h card')
+all-grows : (h : Head) (card card' : List ℕ) (s : ℕ) → ((c : ℕ) (cs : List Entry) → bucket h card c ≡ some cs → bucket h card' c ≡ some cs)
+    → Grows s (bucket h card) (bucket h card')
 all-grows h card card' s f c cs q = ([], f c cs q ∙ ap some (sym (append-nil cs)), late-nil s)
-
-pub root-fine : (n s b : ℕ) → s < 4294967296 → 1 ≤ b → b ≤ n → n ≤ 4096 → Fine n (rootEntry s b)
-unfolding legal
-root-fine n s b sl lo hi nn = (record { kind = omega arith; key = omega arith; stamp = sl; value = omega arith }, true-and (le-leb 1 b lo) (le-leb b n hi))
 
 pub is-root : (s b : ℕ) → isRoot (rootEntry s b) ≡ true
 unfolding isRoot
@@ -92,9 +86,7 @@ module _ (h : Head) (card : List ℕ) (g g' : ℕ → Option Entry) (k s : ℕ) 
           tall = (tb .0, tb .1 ++ gr .0, gr .1, tb .3, tb .4);
         };
         grows = c .grows;
-        upto = c .upto;
         mark = c .mark;
-        stays = c .stays;
         new-log = [];
         log-grows = (ls ∙ ap some (sym (append-nil (st .logs))), late-nil s, tt);
       }
@@ -129,13 +121,12 @@ module _ (h : Head) (card : List ℕ) (g g' : ℕ → Option Entry) (k s : ℕ) 
         };
         grows = all-grows h card card' s (λ c cs q. same c cs (op .same c cs q));
         mark = (let m = op .mark in (m .0, m .1, same (m .0) (m .1) (m .2), m .3));
-        stays = stays-trans card card1 card' (op .stays) (lg .stays);
-        upto = λ c cs q. op .upto c cs (sym (lg .same c) ∙ q);
         new-log = rootEntry s b ∷ [];
         log-grows = (lg .logged, late-root s b, (omega arith, tt));
       }
 
-  one-state : (r : Rise) (p : Entry) → 1 ≤ length (logBlanks h (r .card)) → topUsed h card (h .n) < p .value → One h card (r .card) g' k 0 4294967296 s (r .fresh) p
+  one-state : (r : Rise) (p : Entry) → 1 ≤ length (logBlanks h (r .card)) → topUsed h card (h .n) < p .value
+      → One h card (r .card) g' k 0 4294967296 s (r .fresh) p
       → Wrote h card (fill (r .card) (logBlanks h (r .card)) (rootEntry s (p .value) ∷ [])) g' s (st .logs)
   one-state r p room nb o =
       let tp = tree-parts (bucket h (r .card)) g' k (p .value) 0 4294967296 (o .tree1) in
@@ -145,7 +136,8 @@ module _ (h : Head) (card : List ℕ) (g g' : ℕ → Option Entry) (k s : ℕ) 
       log-state (r .card) (r .fresh) (p .value) k (tp .0) (o .opened) room (tp .1) (o .tree1) (omega arith) nb
 
   -- a root above two buckets, in the fresh bucket f
-  two-state : (r : Rise) (p q : Entry) (f : ℕ) → 1 ≤ length (logBlanks h (r .card)) → r .fresh ≤ f → f ≤ h .n → 2 ≤ length (blanksOf h (r .card) f) → k + 2 ≤ f → topUsed h card (h .n) < f
+  two-state : (r : Rise) (p q : Entry) (f : ℕ) → 1 ≤ length (logBlanks h (r .card)) → r .fresh ≤ f → f ≤ h .n → 2 ≤ length (blanksOf h (r .card) f)
+      → k + 2 ≤ f → topUsed h card (h .n) < f
       → Two h card (r .card) g' k 0 4294967296 s (r .fresh) p q
       → Wrote h card (fill (into h f (p ∷ q ∷ []) (r .card)) (logBlanks h (into h f (p ∷ q ∷ []) (r .card))) (rootEntry s f ∷ [])) g' s (st .logs)
   two-state r p q f room rf fn fr kf nb o =
@@ -157,9 +149,15 @@ module _ (h : Head) (card : List ℕ) (g g' : ℕ → Option Entry) (k s : ℕ) 
       let pk = pr .0 in
       let sh : Shape true 0 4294967296 es = (pk, ((pr .1, omega arith, omega arith, pr .1), ((qr .1, omega arith, omega arith, qr .1), tt))) in
       let fb = fresh-bucket h card1 (r .fresh) f es (o .opened .ready) rf (omega arith) fn fr
-      (pr .2 .0, pr .2 .1, (qr .2 .0, qr .2 .1, tt)) (shape-sound true 0 4294967296 es sh) in
+      (pr .2, (qr .2, tt)) (shape-sound true 0 4294967296 es sh) in
       let card2 = into h f es card1 in
-      let op : Open h card card2 s (f + 1) = record { ready = fb .ready; upto = upto-step s (bucket h card1) (bucket h card2) f es (o .opened .upto) (fb .here) (let a = pr .3 in let b = qr .3 in (omega arith, (omega arith, tt))) (fb .others); mark = (let m = o .opened .mark in (m .0, m .1, fb .same (m .0) (m .1) (m .2), m .3)); stays = stays-trans card card1 card2 (o .opened .stays) (fb .stays); front = λ i lt. fb .front i lt ∙ o .opened .front i lt; same = λ c cs z. fb .same c cs (o .opened .same c cs z) } in
+      let m = o .opened .mark in
+      let op : Open h card card2 s (f + 1) = record {
+        ready = fb .ready;
+        mark = (m .0, m .1, fb .same (m .0) (m .1) (m .2), m .3);
+        front = λ i lt. fb .front i lt ∙ o .opened .front i lt;
+        same = λ c cs z. fb .same c cs (o .opened .same c cs z);
+      } in
       let tr : Tree (bucket h card2) g' (suc k) f 0 4294967296 = (
         es,
         fb .here,
@@ -178,7 +176,8 @@ module _ (h : Head) (card : List ℕ) (g g' : ℕ → Option Entry) (k s : ℕ) 
   abbrev End : Rise → List Entry → Type 0
   End r top = (rooted h s top r) .fresh ≤ h .n + 1 → logFull h (r .card) top ≡ false → Wrote h card ((rooted h s top r) .card) g' s (st .logs)
 
-  ending : (r : Rise) → topUsed h card (h .n) + 1 ≤ r .fresh → k + 1 ≤ topUsed h card (h .n) → All (New (topUsed h card (h .n) + 1)) (r .hand) → Outcome h card g g' k (st .last .value) 0 4294967296 s r → End r (r .hand)
+  ending : (r : Rise) → topUsed h card (h .n) + 1 ≤ r .fresh → k + 1 ≤ topUsed h card (h .n) → All (New (topUsed h card (h .n) + 1)) (r .hand)
+      → Outcome h card g g' k (st .last .value) 0 4294967296 s r → End r (r .hand)
   unfolding rooted logged oneBucket logFull blanksOf
   ending r ff tall nw (inl c) = subst (End r) (sym (c .0)) (λ cap room. closed-state h card g g' k s st s32 (r .card) (r .fresh) (c .1))
   ending r ff tall nw (inr (inl c)) = subst (End r) (sym (c .1))
@@ -218,12 +217,13 @@ unfolding checked refuseIf
 checked-accept h full r le free = rw (le-ltb (h .n + 1) (r .fresh) le, free)
 
 -- a write: what it leaves if it is accepted, and that it is if the fresh buckets needed remain
-pub write-step : (h : Head) (card : List ℕ) (g : ℕ → Option Entry) (k : ℕ) (st : State h card g k) (e : Entry) → Fine (h .n) e → (isIndex e ≡ false) × (isData e ≡ true) → Upto (e .stamp) (bucket h card)
+pub write-step : (h : Head) (card : List ℕ) (g : ℕ → Option Entry) (k : ℕ) (st : State h card g k) (e : Entry) → Fine (h .n) e
+    → (isIndex e ≡ false) × (isData e ≡ true)
     → (p : List Visit) × (path (bucket h card) 4294967295 (e .key) (h .n) (st .last .value) 0 ≡ some p)
     × ((new : List ℕ) → planOn h card e p ≡ accept new → Wrote h card new (upd g e) (e .stamp) (st .logs))
     × (freshAfter h card e p ≤ h .n + 1 → (new : List ℕ) × (planOn h card e p ≡ accept new))
 unfolding planOn finish freshAfter
-write-step h card g k st e fine isd upto =
+write-step h card g k st e fine isd =
     let hf = head-facts card h (st .head) in
     let tb = st .tall in
     let bn = bucket-within h card (tb .0) (tb .1) (hf .1) (tb .2) in
@@ -232,7 +232,7 @@ write-step h card g k st e fine isd upto =
     let tl = tb .3 in
     let ready = ready-top h card (st .bytes) (hf .1) (st .whole) in
     let early = early-max h card (st .bytes) in
-    let ct = climb-tree h (hf .0) card g 4294967295 early e fine isd f0 ready (omega arith) upto k (st .last .value) 0 4294967296 (h .n) (st .tree)
+    let ct = climb-tree h (hf .0) card g 4294967295 early e fine isd f0 ready (omega arith) k (st .last .value) 0 4294967296 (h .n) (st .tree)
     (omega arith) (omega arith) (omega arith) (fine .0 .key) (omega arith) in
     let r = climb h (e .stamp) (ct .0) (start card e f0) in
     let cf = climb-mono h (e .stamp) (ct .0) (start card e f0) in

@@ -1,5 +1,5 @@
--- One level of a write: the hand is placed in a bucket, or the bucket is made anew with it.
-use mathlib.Core.Path.{_∙_, _≡_, ap, refl, subst, sym}
+-- What one level of a write leaves: a bucket with the hand in it, or one or two new buckets in its place.
+use mathlib.Core.Path.{_∙_, _≡_, refl, sym}
 use mathlib.Core.Logic.{_⊎_, inl, inr, ⊎-elim}
 use mathlib.Core.Bool.{Bool, false, not, true}
 use mathlib.Core.Option.{Option, some}
@@ -11,16 +11,15 @@ use borrow.Author.Tests.{eq-eqb, le-ltb, lt-ltb}
 use Rattle.rules.specs.declared.Entry.{Entry}
 use Rattle.rules.specs.declared.Head.{Head}
 use Rattle.rules.specs.Bucket.{bucket}
-use Rattle.rules.specs.Plain.{_or_, lastOf, only}
+use Rattle.rules.specs.Plain.{_or_, only}
 use Rattle.rules.specs.Rewrite.{Rise, insert, kept, keyOf, lastCopies}
 use Rattle.rules.specs.Sector.{isData, isIndex, sectorAt}
 use Rattle.rules.specs.Walk.{copyOf}
-use Rattle.laws.proofs.Tools.{bool-cases, eq-or-ne, le-or-lt, none-some, true-false}
-use Rattle.laws.proofs.Lists.{All, all-map, only-all, only-back}
-use Rattle.laws.proofs.Bytes.{Fine}
+use Rattle.laws.proofs.Tools.{bool-cases, eq-or-ne, le-or-lt, true-false}
+use Rattle.laws.proofs.Lists.{All, all-map, only-back, copy-all}
+use Rattle.laws.proofs.Entries.{Fine}
 use Rattle.laws.proofs.Copies.{copies-says}
 use Rattle.laws.proofs.Halves.{copies-all, kept-all}
-use Rattle.laws.proofs.Into.{Stays}
 use Rattle.tree.proofs.AsOf.{Grows}
 use Rattle.tree.proofs.Tree.{HeadIs, Reading, Shape, Span, Tree}
 use Rattle.tree.proofs.Ready.{Ready}
@@ -59,18 +58,6 @@ unfolding keyOf
 keyOf-head lo [] k = absurd k
 keyOf-head lo (e ∷ es) k = k
 
--- no entry is stamped after s
-abbrev pub Upto : ℕ → Reading → Type 0
-Upto s rd = (c : ℕ) (cs : List Entry) → rd c ≡ some cs → All (λ e. e .stamp ≤ s) cs
-
-pub upto-step : (s : ℕ) (rd rd' : Reading) (b : ℕ) (es : List Entry) → Upto s rd → rd' b ≡ some es → All (λ e. e .stamp ≤ s) es
-    → ((c : ℕ) → (c ≡ b → ⊥) → rd' c ≡ rd c) → Upto s rd'
-upto-step s rd rd' b es up q a others c cs z =
-    ⊎-elim
-    (λ (cb : c ≡ b). let e : es ≡ cs = cc (q, ap rd' cb, z) in subst (All (λ d. d .stamp ≤ s)) e a)
-    (λ (ne : c ≡ b → ⊥). up c cs (sym (others c ne) ∙ z))
-    (eq-or-ne c b)
-
 -- a post or strike stamped s can be read
 abbrev pub Unmarked : ℕ → List Entry → Type 0
 Unmarked s cs = All (λ e. isData e ≡ true → e .stamp ≡ s → ⊥) cs
@@ -89,23 +76,14 @@ unmarked? s (e ∷ cs) =
     (λ (d : isData e ≡ false). ⊎-elim (λ a. inl ((λ i. absurd (true-false (sym i ∙ d))), a)) (λ z. inr (λ a. z (a .1))) (unmarked? s cs))
     (bool-cases (isData e))
 
-pub last-all : (P : Entry → Type 0) (es : List Entry) (d : Entry) → All P es → lastOf es ≡ some d → P d
-unfolding lastOf
-last-all P [] d a q = absurd (none-some q)
-last-all P (e ∷ []) d a q = let ed : e ≡ d = cc in subst P ed (a .0)
-last-all P (e ∷ c ∷ es) d a q = last-all P (c ∷ es) d (a .1) q
-
-pub copy-all : (P : Entry → Type 0) (x : ℕ) (es : List Entry) (d : Entry) → All P es → copyOf x es ≡ some d → P d
-unfolding copyOf
-copy-all P x es d a q = last-all P (only (λ e. eqb (e .key) x) es) d (only-all P (λ e. eqb (e .key) x) es a) q
-
 pub or-true2 : (a b : Bool) → a or b or true ≡ true
 or-true2 true b = refl
 or-true2 false true = refl
 or-true2 false false = refl
 
 -- the entry just added is kept
-pub kept-marked : (hk s : ℕ) (es : List Entry) (p : Entry) → copyOf (p .key) es ≡ some p → p .stamp ≡ s → isData p ≡ true → Unmarked s (kept hk s es) → ⊥
+pub kept-marked : (hk s : ℕ) (es : List Entry) (p : Entry) → copyOf (p .key) es ≡ some p → p .stamp ≡ s → isData p ≡ true → Unmarked s (kept hk s es)
+    → ⊥
 unfolding kept
 kept-marked hk s es p q ps pd u =
     let b = only-back (λ e. isData e ≡ true → e .stamp ≡ s → ⊥) (λ e. not (eqb (e .kind) 2) or eqb (e .key) hk or eqb (e .stamp) s) (lastCopies es) u in
@@ -118,9 +96,7 @@ pub record Closed (h : Head) (card card' : List ℕ) (g g' : ℕ → Option Entr
   pub ready : Ready h card' f
   pub front : (j : ℕ) → j < 1 + h .n → sectorAt card' j ≡ sectorAt card j
   pub grows : Grows s (bucket h card) (bucket h card')
-  pub upto : Upto s (bucket h card')
   pub mark : Mark s (bucket h card')
-  pub stays : Stays card card'
   pub spot : ℕ
   pub height : ℕ
   pub low : ℕ
@@ -132,9 +108,7 @@ pub record Closed (h : Head) (card card' : List ℕ) (g g' : ℕ → Option Entr
 
 pub record Open (h : Head) (card card' : List ℕ) (s f : ℕ) : Type 0 where
   pub ready : Ready h card' f
-  pub upto : Upto s (bucket h card')
   pub mark : Mark s (bucket h card')
-  pub stays : Stays card card'
   pub front : (j : ℕ) → j < 1 + h .n → sectorAt card' j ≡ sectorAt card j
   pub same : (c : ℕ) (cs : List Entry) → bucket h card c ≡ some cs → bucket h card' c ≡ some cs
 

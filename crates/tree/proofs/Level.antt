@@ -1,4 +1,4 @@
--- One level of a write, from the bucket's entries with the hand behind them.
+-- One level of a write: the hand goes into the bucket, or the bucket is made anew with it.
 use mathlib.Core.Path.{_∙_, _≡_, ap, ap₂, refl, subst, sym}
 use mathlib.Core.Logic.{_⊎_, inl, inr, ⊎-elim}
 use mathlib.Core.Bool.{Bool, false, true}
@@ -18,18 +18,18 @@ use Rattle.rules.specs.Sector.{isData, isIndex, sectorAt}
 use Rattle.rules.specs.Walk.{Visit, copyOf}
 use Rattle.rules.specs.Write.{place}
 use Rattle.laws.proofs.Tools.{eq-or-ne, le-or-lt}
-use Rattle.laws.proofs.Lists.{All, all-append, all-left, all-map, all-right}
-use Rattle.laws.proofs.Blocks.{Good, blank-room}
-use Rattle.laws.proofs.Bytes.{Fine, all-good, good-all, run-good}
-use Rattle.laws.proofs.Halves.{Sorted, kept-all, kept-length, kept-sorted}
+use Rattle.laws.proofs.Lists.{All, all-append, all-left, all-map, all-right, copy-all}
+use Rattle.laws.proofs.Entries.{Good, Fine, pair-fine}
+use Rattle.laws.proofs.Blocks.{blank-room}
+use Rattle.laws.proofs.Bytes.{run-good}
+use Rattle.laws.proofs.Halves.{Sorted, kept-all, kept-length, kept-sorted, sorted-high, sorted-low}
 use Rattle.laws.proofs.Buckets.{bucket-length, bucket-raw}
 use Rattle.laws.proofs.Heads.{Lim}
-use Rattle.laws.proofs.Into.{Stays, block-else, stays-trans}
-use Rattle.laws.proofs.Puts.{pair-fine}
+use Rattle.laws.proofs.Into.{block-else}
 use Rattle.tree.proofs.AsOf.{Late}
 use Rattle.tree.proofs.Tree.{HeadIs, Shape, Span, Tree, tree-fresh}
-use Rattle.tree.proofs.Content.{Content, content-frame, content-fresh, content-high, content-kept, content-low, isIdx, shape-sound, sorted-high, sorted-low, tree-make}
-use Rattle.tree.proofs.Place.{Closed, Mark, One, Outcome, Two, Unmarked, Upto, copy-all, kept-marked, keyOf-head, shape-kept, unmarked?, upto-step}
+use Rattle.tree.proofs.Content.{Content, content-frame, content-fresh, content-high, content-kept, content-low, isIdx, shape-sound, tree-make}
+use Rattle.tree.proofs.Outcome.{Closed, Mark, One, Outcome, Two, Unmarked, kept-marked, keyOf-head, shape-kept, unmarked?}
 use Rattle.tree.proofs.Ready.{Ready, fresh-bucket, join-bucket}
 
 zip-span : (i : Bool) (lo hi m : ℕ) (es : List Entry) → All (Span i lo hi) es → All (λ e. e .key < m) es → All (Span i lo m) es
@@ -51,9 +51,6 @@ pub record Before (h : Head) (card : List ℕ) (g g' : ℕ → Option Entry) (k 
   pub front1 : (j : ℕ) → j < 1 + h .n → sectorAt (r .card) j ≡ sectorAt card j
   pub late : Late s (r .hand)
   pub added : ((p : Entry) × (copyOf (p .key) (es ++ r .hand) ≡ some p) × (p .stamp ≡ s) × (isData p ≡ true)) ⊎ Mark s (bucket h (r .card))
-  pub stays1 : Stays card (r .card)
-  pub upto1 : Upto s (bucket h (r .card))
-  pub stamps : All (λ e. e .stamp ≤ s) (r .hand)
   pub ready1 : Ready h (r .card) (r .fresh)
   pub fresh1 : 1 ≤ r .fresh
   pub here : bucket h card b ≡ some es
@@ -69,9 +66,6 @@ module _ (h : Head) (card : List ℕ) (g g' : ℕ → Option Entry) (k b lo hi s
   abbrev card1 : List ℕ
   card1 = r .card
 
-  all-stamps : All (λ e. e .stamp ≤ s) (es ++ r .hand)
-  all-stamps = all-append (λ e. e .stamp ≤ s) es (r .hand) (bf .upto1 b es (bf .same1 b es (bf .here))) (bf .stamps)
-
   room : length (r .hand) ≤ length (blanksOf h card1 b) → Closed h card (into h b (r .hand) card1) g g' k b lo hi s (r .fresh)
   room fits =
       let j = join-bucket h card1 (r .fresh) b es (r .hand) (bf .ready1) (bf .fresh1) (bf .same1 b es (bf .here)) fits (bf .good)
@@ -85,7 +79,6 @@ module _ (h : Head) (card : List ℕ) (g g' : ℕ → Option Entry) (k b lo hi s
             (r .hand, ap (bucket h card2) cb ∙ j .here ∙ ap (λ z. some (z ++ r .hand)) (sym e), bf .late))
             (λ ne. ([], j .others c ne ∙ bf .same1 c cs q ∙ ap some (sym (append-nil cs)), late-nil s))
             (eq-or-ne c b);
-        upto = upto-step s (bucket h card1) (bucket h card2) b (es ++ r .hand) (bf .upto1) (j .here) all-stamps (j .others);
         mark = ⊎-elim
             (λ (a : (p : Entry) × (copyOf (p .key) (es ++ r .hand) ≡ some p) × (p .stamp ≡ s) × (isData p ≡ true)).
             (b, es ++ r .hand, j .here, λ u. copy-all (λ e. isData e ≡ true → e .stamp ≡ s → ⊥) (a .0 .key) (es ++ r .hand) (a .0) u (a .1) (a .3) (a .2)))
@@ -95,7 +88,6 @@ module _ (h : Head) (card : List ℕ) (g g' : ℕ → Option Entry) (k b lo hi s
             (λ (ne : m .0 ≡ b → ⊥). (m .0, m .1, j .others (m .0) ne ∙ m .2, m .3))
             (eq-or-ne (m .0) b))
             (bf .added);
-        stays = stays-trans card card1 card2 (bf .stays1) (j .stays);
         spot = b;
         height = k;
         low = lo;
@@ -123,10 +115,7 @@ module _ (h : Head) (card : List ℕ) (g g' : ℕ → Option Entry) (k b lo hi s
 
   fine-all : All (Fine (h .n)) ks
   fine-all = kept-all (Fine (h .n)) lo s (es ++ r .hand)
-      (all-append (Fine (h .n)) es (r .hand) (good-all (h .n) es es-good) (good-all (h .n) (r .hand) (bf .good)))
-
-  ks-stamps : All (λ e. e .stamp ≤ s) ks
-  ks-stamps = kept-all (λ e. e .stamp ≤ s) lo s (es ++ r .hand) all-stamps
+      (all-append (Fine (h .n)) es (r .hand) es-good (bf .good))
 
   ks-marked : (a : (p : Entry) × (copyOf (p .key) (es ++ r .hand) ≡ some p) × (p .stamp ≡ s) × (isData p ≡ true)) → Unmarked s ks → ⊥
   ks-marked a u = kept-marked lo s (es ++ r .hand) (a .0) (a .1) (a .2) (a .3) u
@@ -137,19 +126,17 @@ module _ (h : Head) (card : List ℕ) (g g' : ℕ → Option Entry) (k b lo hi s
   unfolding pair isIndex
   one b1 fb fn len =
       let f1 = bf .fresh1 in
-      let nb = fresh-bucket h card1 (r .fresh) b1 ks (bf .ready1) fb (omega arith) fn len (all-good (h .n) ks fine-all) (shape-sound (isIdx k) lo hi ks ks-shape) in
+      let nb = fresh-bucket h card1 (r .fresh) b1 ks (bf .ready1) fb (omega arith) fn len fine-all (shape-sound (isIdx k) lo hi ks ks-shape) in
       let key = keyOf-head lo ks (ks-shape .0) in
       let rg = bf .range in
       let card2 = into h b1 ks card1 in
       record {
         opened = record {
           ready = nb .ready;
-          upto = upto-step s (bucket h card1) (bucket h card2) b1 ks (bf .upto1) (nb .here) ks-stamps (nb .others);
           mark = ⊎-elim
               (λ (a : (p : Entry) × (copyOf (p .key) (es ++ r .hand) ≡ some p) × (p .stamp ≡ s) × (isData p ≡ true)). (b1, ks, nb .here, ks-marked a))
               (λ (m : Mark s (bucket h card1)). (m .0, m .1, nb .same (m .0) (m .1) (m .2), m .3))
               (bf .added);
-          stays = stays-trans card card1 card2 (bf .stays1) (nb .stays);
           front = λ i lt. nb .front i lt ∙ bf .front1 i lt;
           same = λ c cs q. nb .same c cs (bf .same1 c cs q);
         };
@@ -170,7 +157,6 @@ module _ (h : Head) (card : List ℕ) (g g' : ℕ → Option Entry) (k b lo hi s
       let so : Sorted (as1 ++ bs1) = subst Sorted eq (kept-sorted lo s (es ++ r .hand)) in
       let cn : Content (bucket h card1) g' k (as1 ++ bs1) lo hi = subst (λ l. Content (bucket h card1) g' k l lo hi) eq ks-content in
       let fa : All (Fine (h .n)) (as1 ++ bs1) = subst (All (Fine (h .n))) eq fine-all in
-      let st : All (λ z. z .stamp ≤ s) (as1 ++ bs1) = subst (All (λ z. z .stamp ≤ s)) eq ks-stamps in
       let dspan = all-right (Span (isIdx k) lo hi) as1 bs1 (sh .1) in
       let xd = sorted-low as1 d bs so in
       let rg = bf .range in
@@ -179,17 +165,15 @@ module _ (h : Head) (card : List ℕ) (g g' : ℕ → Option Entry) (k b lo hi s
       let xk = sh .0 in
       let x0 = xd .0 in
       let sh1 : Shape (isIdx k) lo (d .key) as1 = (sh .0, zip-span (isIdx k) lo hi (d .key) as1 (all-left (Span (isIdx k) lo hi) as1 bs1 (sh .1)) xd) in
-      let sh2 : Shape (isIdx k) (d .key) hi bs1 = (refl, zip-span2 (isIdx k) lo hi (d .key) bs1 dspan (omega arith, all-map (λ e. d .key < e .key) (λ e. d .key ≤ e .key) (λ e z. omega arith) bs (sorted-high as1 d bs so))) in
-      let fb1 = fresh-bucket h card1 (r .fresh) b1 as1 (bf .ready1) fb (omega arith) (omega arith) len1 (all-good (h .n) as1 (all-left (Fine (h .n)) as1 bs1 fa)) (shape-sound (isIdx k) lo (d .key) as1 sh1) in
+      let above = all-map (λ e. d .key < e .key) (λ e. d .key ≤ e .key) (λ e z. omega arith) bs (sorted-high as1 d bs so) in
+      let sh2 : Shape (isIdx k) (d .key) hi bs1 = (refl, zip-span2 (isIdx k) lo hi (d .key) bs1 dspan (omega arith, above)) in
+      let fb1 = fresh-bucket h card1 (r .fresh) b1 as1 (bf .ready1) fb (omega arith) (omega arith) len1 (all-left (Fine (h .n)) as1 bs1 fa) (shape-sound (isIdx k) lo (d .key) as1 sh1) in
       let card2 = into h b1 as1 card1 in
-      let fb2 = fresh-bucket h card2 (b1 + 1) b2 bs1 (fb1 .ready) (omega arith) (omega arith) fn len2 (all-good (h .n) bs1 (all-right (Fine (h .n)) as1 bs1 fa)) (shape-sound (isIdx k) (d .key) hi bs1 sh2) in
+      let fb2 = fresh-bucket h card2 (b1 + 1) b2 bs1 (fb1 .ready) (omega arith) (omega arith) fn len2 (all-right (Fine (h .n)) as1 bs1 fa) (shape-sound (isIdx k) (d .key) hi bs1 sh2) in
       let card3 = into h b2 bs1 card2 in
       record {
         opened = record {
           ready = fb2 .ready;
-          upto = upto-step s (bucket h card2) (bucket h card3) b2 bs1
-              (upto-step s (bucket h card1) (bucket h card2) b1 as1 (bf .upto1) (fb1 .here) (all-left (λ e. e .stamp ≤ s) as1 bs1 st) (fb1 .others))
-              (fb2 .here) (all-right (λ e. e .stamp ≤ s) as1 bs1 st) (fb2 .others);
           mark = ⊎-elim
               (λ (i : (p : Entry) × (copyOf (p .key) (es ++ r .hand) ≡ some p) × (p .stamp ≡ s) × (isData p ≡ true)). ⊎-elim
               (λ (a : Unmarked s as1). (b2, bs1, fb2 .here, λ b. ks-marked i (subst (Unmarked s) (sym eq) (all-append (λ e. isData e ≡ true → e .stamp ≡ s → ⊥) as1 bs1 a b))))
@@ -197,7 +181,6 @@ module _ (h : Head) (card : List ℕ) (g g' : ℕ → Option Entry) (k b lo hi s
               (unmarked? s as1))
               (λ (m : Mark s (bucket h card1)). (m .0, m .1, fb2 .same (m .0) (m .1) (fb1 .same (m .0) (m .1) (m .2)), m .3))
               (bf .added);
-          stays = stays-trans card card1 card3 (bf .stays1) (stays-trans card1 card2 card3 (fb1 .stays) (fb2 .stays));
           front = λ i lt. fb2 .front i lt ∙ fb1 .front i lt ∙ bf .front1 i lt;
           same = λ c cs q. fb2 .same c cs (fb1 .same c cs (bf .same1 c cs q));
         };
@@ -261,7 +244,8 @@ module _ (h : Head) (card : List ℕ) (g g' : ℕ → Option Entry) (k b lo hi s
       let fr = fresh-room r (r .fresh) (r .fresh) (bf .ready1) (omega arith) (omega arith) in
       inr (inl (pair s (r .fresh) ks, refl, one (r .fresh) (omega arith) (omega arith) (omega arith))))
 
-  out-two : (j : ℕ) → j ≡ length ks - length ks / 2 → 2 ≤ length ks → length ks ≤ h .m + 2 → (ls bs : List Entry) → take j ks ≡ ls → drop j ks ≡ bs → Out (twoBuckets h s ls bs r)
+  out-two : (j : ℕ) → j ≡ length ks - length ks / 2 → 2 ≤ length ks → length ks ≤ h .m + 2 → (ls bs : List Entry) → take j ks ≡ ls → drop j ks ≡ bs
+      → Out (twoBuckets h s ls bs r)
   unfolding twoBuckets
   out-two j jj l2 lm ls bs te de cap =
       go ls bs (sym (take-append-drop j ks) ∙ ap₂ _++_ te de) (sym (ap length te) ∙ length-take j ks) (sym (ap length de) ∙ length-drop j ks) cap

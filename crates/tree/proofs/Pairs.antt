@@ -1,4 +1,4 @@
--- New pairs at the end of an index bucket.
+-- New pairs at the end of an index bucket lead to the new buckets, and to the old ones for other keys.
 use mathlib.Core.Path.{_∙_, _≡_, ap, refl, sym}
 use mathlib.Core.Logic.{_⊎_, inl, inr, ⊎-elim}
 use mathlib.Core.Option.{Option, some}

@@ -1,4 +1,4 @@
--- A root entry put at the log's first blank.
+-- A root entry goes to the first blank of the log.
 use mathlib.Core.Path.{_∙_, _≡_, ap, refl, sym}
 use mathlib.Core.Logic.{_⊎_, inl, inr, ⊎-elim}
 use mathlib.Core.Bool.{true}
@@ -11,15 +11,15 @@ use Rattle.rules.specs.declared.Entry.{Entry}
 use Rattle.rules.specs.declared.Head.{Head}
 use Rattle.rules.specs.Bucket.{blanks, bucket, log, logBlanks, run, soundBucket, soundLog}
 use Rattle.rules.specs.Layout.{base, sizeOf}
-use Rattle.rules.specs.Plain.{andThen, every, zeros}
+use Rattle.rules.specs.Plain.{andThen, every}
 use Rattle.rules.specs.Rewrite.{fill}
 use Rattle.rules.specs.Sector.{isRoot, sectorAt}
-use Rattle.laws.proofs.Tools.{guard-true, none-some, then-inv, true-false}
+use Rattle.laws.proofs.Tools.{guard-true, none-some, then-inv}
 use Rattle.laws.proofs.Run.{run-agree}
 use Rattle.laws.proofs.Buckets.{every-snoc, raw}
-use Rattle.laws.proofs.Blocks.{Each, Good, Lies, blanks-each, fill-other, fill-run, length-fill}
-use Rattle.laws.proofs.Bytes.{Fine, bytes-fill}
-use Rattle.laws.proofs.Into.{Stays}
+use Rattle.laws.proofs.Blocks.{Each, Lies, blanks-each, fill-other, fill-run, length-fill}
+use Rattle.laws.proofs.Entries.{Good, Fine}
+use Rattle.laws.proofs.Bytes.{bytes-fill}
 use Rattle.tree.proofs.Ready.{Ready}
 
 -- what is read of the log, by its sectors
@@ -44,12 +44,12 @@ soundLog-snoc (x ∷ lg) r a b = rw (every-snoc isRoot (x ∷ lg) r a b)
 
 pub record Logged (h : Head) (card card' : List ℕ) (f : ℕ) (lg : List Entry) : Type 0 where
   pub ready : Ready h card' f
-  pub stays : Stays card card'
   pub head : sectorAt card' 0 ≡ sectorAt card 0
   pub logged : log h card' ≡ some lg
   pub same : (c : ℕ) → bucket h card' c ≡ bucket h card c
 
-pub log-step : (h : Head) (card : List ℕ) (f : ℕ) (lg : List Entry) (r : Entry) → Ready h card f → log h card ≡ some lg → 1 ≤ length (logBlanks h card)
+pub log-step : (h : Head) (card : List ℕ) (f : ℕ) (lg : List Entry) (r : Entry) → Ready h card f → log h card ≡ some lg
+    → 1 ≤ length (logBlanks h card)
     → Fine (h .n) r → isRoot r ≡ true → Logged h card (fill card (logBlanks h card) (r ∷ [])) f (lg ++ (r ∷ []))
 unfolding log logBlanks bucket sizeOf base
 log-step h card f lg r rdy q room fine root =
@@ -57,7 +57,7 @@ log-step h card f lg r rdy q room fine root =
     let inv = log-raw h card lg q in
     let is = blanks card 1 (h .n) in
     let card' = fill card is (r ∷ []) in
-    let good : Good (h .n) (r ∷ []) = (fine .0, fine .1, tt) in
+    let good : Good (h .n) (r ∷ []) = (fine, tt) in
     let lies : Each (Lies card) is = blanks-each (Lies card) card 1 (h .n) (λ j p z y. omega arith) in
     let other : (j : ℕ) → (j < 1) ⊎ (1 + h .n ≤ j) → sectorAt card' j ≡ sectorAt card j
     = λ j out. fill-other card is (r ∷ []) j lies
@@ -71,13 +71,12 @@ log-step h card f lg r rdy q room fine root =
         blank = λ c a b. rawsame c ∙ rdy .blank c a b;
         whole = λ c a. let w = rdy .whole c a in (w .0, rawsame c ∙ w .1);
       };
-      stays = λ j z. fill-other card is (r ∷ []) j lies
-          (blanks-each (λ i. j ≡ i → ⊥) card 1 (h .n) (λ i p w y e. true-false (sym y ∙ ap (λ k. zeros (sectorAt card k)) (sym e) ∙ z)));
       head = other 0 (inl (omega arith));
       logged = rw (fill-run (h .n) card 1 (h .n) lg (r ∷ []) good (omega arith) room (inv .0)) (soundLog-snoc lg r (inv .1) root);
       same = λ c. buckets c (rawsame c);
     }
   where
-    buckets : (c : ℕ) → raw h (fill card (blanks card 1 (h .n)) (r ∷ [])) c ≡ raw h card c → bucket h (fill card (blanks card 1 (h .n)) (r ∷ [])) c ≡ bucket h card c
+    buckets : (c : ℕ) → raw h (fill card (blanks card 1 (h .n)) (r ∷ [])) c ≡ raw h card c
+        → bucket h (fill card (blanks card 1 (h .n)) (r ∷ [])) c ≡ bucket h card c
     buckets zero e = refl
     buckets (suc c) e = ap (λ z. andThen z soundBucket) e

@@ -1,4 +1,4 @@
--- A card in order, and an accepted write.
+-- A card in order: its head, its log, and a tree that holds what stands.
 use mathlib.Core.Path.{_≡_, ap}
 use mathlib.Core.Logic.{⊎-elim}
 use mathlib.Core.Bool.{true}
@@ -19,12 +19,12 @@ use Rattle.rules.specs.Walk.{follow, left, path, pathFrom, pathIn, walk}
 use Rattle.laws.proofs.Tools.{le-or-lt}
 use Rattle.laws.proofs.Lists.{all-map, upper}
 use Rattle.laws.proofs.Run.{blanks-agree, run-agree}
-use Rattle.laws.proofs.Blocks.{Good}
-use Rattle.laws.proofs.Bytes.{Bytes, Fine, good-all, run-good}
+use Rattle.laws.proofs.Entries.{Good, Fine}
+use Rattle.laws.proofs.Bytes.{Bytes, run-good}
 use Rattle.laws.proofs.Halves.{only-every}
 use Rattle.laws.proofs.Buckets.{bucket-raw, raw}
 use Rattle.tree.proofs.Tree.{Early, Kids, Reading, Tree}
-use Rattle.tree.proofs.LogStep.{log-raw}
+use Rattle.tree.proofs.Log.{log-raw}
 
 pub record State (h : Head) (card : List ℕ) (g : ℕ → Option Entry) (k : ℕ) : Type 0 where
   pub bytes : Bytes card
@@ -43,7 +43,7 @@ good-left : (n : ℕ) (es : List Entry) → Good n es → left 4294967295 es ≡
 unfolding left
 good-left n es g =
     only-every (λ e. leb (e .stamp) 4294967295) es
-    (all-map (Fine n) (λ e. leb (e .stamp) 4294967295 ≡ true) (λ e f. le-leb (e .stamp) 4294967295 (let z = f .0 .stamp in omega arith)) es (good-all n es g))
+    (all-map (Fine n) (λ e. leb (e .stamp) 4294967295 ≡ true) (λ e f. le-leb (e .stamp) 4294967295 (let z = f .0 .stamp in omega arith)) es g)
 
 pub early-max : (h : Head) (card : List ℕ) → Bytes card → Early 4294967295 (bucket h card)
 early-max h card b c es q = good-left (h .n) es (run-good (h .n) card b (base h c) (h .m) es (bucket-raw h card c es q .1))
@@ -52,7 +52,8 @@ pub log-same : (h : Head) (card card' : List ℕ) → ((j : ℕ) → j < 1 + h .
 unfolding log
 log-same h card card' f = ap (λ z. andThen z soundLog) (run-agree (h .n) card' card 1 (h .n) (λ j p q. f j (omega arith)))
 
-pub log-blanks-same : (h : Head) (card card' : List ℕ) → ((j : ℕ) → j < 1 + h .n → sectorAt card' j ≡ sectorAt card j) → logBlanks h card' ≡ logBlanks h card
+pub log-blanks-same : (h : Head) (card card' : List ℕ) → ((j : ℕ) → j < 1 + h .n → sectorAt card' j ≡ sectorAt card j)
+    → logBlanks h card' ≡ logBlanks h card
 unfolding logBlanks
 log-blanks-same h card card' f = blanks-agree card' card 1 (h .n) (λ j p q. f j (omega arith))
 

@@ -1,0 +1,143 @@
+-- Two cards formatted alike whose accepted entries agree up to t answer alike as of t.
+use mathlib.Core.Option.{Option, some}
+use mathlib.Core.Bool.{false}
+use Prim.Native.Nat.{ℕ, _≤_, _<_}
+use mathlib.Core.Path.{refl, sym, ap, ap₂, subst, _∙_, _≡_}
+use mathlib.Core.Logic.{⊎-elim}
+use mathlib.Core.List.{List, [], _∷_}
+use lib.ListN.{length}
+use lib.Dec.{leb}
+use borrow.Author.Tests.{le-leb, lt-leb}
+use native.Mathlib.Omega.{arith}
+use Rattle.rules.specs.declared.Entry.{Entry}
+use Rattle.rules.specs.declared.Head.{Head}
+use Rattle.rules.specs.Layout.{headOf, sizeOf}
+use Rattle.rules.specs.Walk.{Visit, standsOn, dataOf, walk, left}
+use Rattle.rules.specs.Next.{standingAbove}
+use Rattle.rules.specs.Look.{lookOn, lookIn, look}
+use Rattle.rules.specs.Write.{accept}
+use Rattle.rules.specs.Plain.{only}
+use Rattle.rules.specs.Format.{format, formatted, meant}
+use Rattle.laws.proofs.Halves.{only-none}
+use Rattle.laws.proofs.Lists.{All, all-map}
+use Rattle.laws.proofs.Tools.{le-or-lt}
+use Rattle.laws.proofs.Zeros.{zero-eq}
+use Rattle.tree.proofs.AsOf.{Alike}
+use Rattle.tree.proofs.Begin.{format-inv, nothing}
+use Rattle.tree.proofs.Keeps.{Keeps, keeps-passed, keeps-wrote, keeps-step, more}
+use Rattle.tree.proofs.Tree.{some-inj}
+use Rattle.tree.proofs.Walks.{walk-late, alike-length, alike-data, alike-refl, alike-trans}
+use Rattle.tree.proofs.Climb.{upd}
+use Rattle.promises.specs.Promises.{CardsAnswerAlike}
+use Rattle.promises.specs.Calls.{Formatted, cardAfter, nextAsOf, found, accepted}
+use Rattle.promises.proofs.Since.{Since, since-keeps, calls-since}
+use Rattle.promises.proofs.Truth.{formatted-keeps, next-tells-the-truth}
+
+accept-inj : (c d : List ℕ) → accept c ≡ accept d → c ≡ d
+accept-inj c d e = cc
+
+-- the same entries lead to the same card
+same-card : (c : List ℕ) (es : List Entry) (d b : List ℕ) → Since c es d → Since c es b → d ≡ b
+same-card c [] d b p q = sym p ∙ q
+same-card c (e ∷ es) d b p q =
+    let new : q .0 ≡ p .0 = accept-inj (q .0) (p .0) (sym (q .2) ∙ p .2) in
+    same-card (p .0) es d b (p .3) (subst (λ z. Since z es b) new (q .3))
+
+same-format : (h : Head) (c d : List ℕ) → Formatted h c → Formatted h d → c ≡ d
+unfolding format
+same-format h c d f e =
+    let a = format-inv (f .0) (meant (f .1) (f .2) (f .3) (f .4)) c (f .5) in
+    let b = format-inv (e .0) (meant (e .1) (e .2) (e .3) (e .4)) d (e .5) in
+    let heads : meant (f .1) (f .2) (f .3) (f .4) ≡ meant (e .1) (e .2) (e .3) (e .4) = f .6 ∙ sym (e .6) in
+    sym (a .3) ∙ ap₂ formatted heads (zero-eq (f .0) (e .0) (a .2) (b .2) (a .1 ∙ ap sizeOf heads ∙ sym (b .1))) ∙ b .3
+
+-- every walk as of t meets the same buckets, with the same entries up to t
+abbrev SameWalks : Head → ℕ → List ℕ → List ℕ → Type 0
+SameWalks h t c d = (x : ℕ) → x < 4294967296 → (p : List Visit) × (q : List Visit) × (walk h c t x ≡ some p) × (walk h d t x ≡ some q) × Alike t p q
+
+same-walks : (h : Head) (c : List ℕ) (g : ℕ → ℕ → Option Entry) (begin s : ℕ) → Keeps h c g begin s → (t : ℕ) → begin ≤ t → (d : List ℕ) → c ≡ d
+    → SameWalks h t c d
+same-walks h c g begin s ke t le d q =
+    subst (SameWalks h t c) q (λ x lt. let a = ke .answers t x le lt in (a .0, a .0, a .1, a .1, alike-refl t (a .0)))
+
+-- entries stamped after t change no such walk
+late-walks : (h : Head) (c : List ℕ) (g : ℕ → ℕ → Option Entry) (begin s : ℕ) → Keeps h c g begin s → (t : ℕ) → begin ≤ t
+    → (es : List Entry) (d : List ℕ) → Since c es d → All (λ e. t < e .stamp) es → SameWalks h t c d
+late-walks h c g begin s ke t le [] d q a x lt = same-walks h c g begin s ke t le d q x lt
+late-walks h c g begin s ke t le (e ∷ es) d q a x lt =
+    let new = q .0 in
+    let w = keeps-wrote h c g begin s ke e (q .1) new (q .2) in
+    let rest = late-walks h new (more g e) begin (e .stamp) (keeps-step h c g begin s ke e (q .1) new (q .2)) t le es d (q .3) (a .1) x lt in
+    let o = ke .answers t x le lt in
+    let one = walk-late h c new (upd (ke .now) e) (e .stamp) (ke .state .logs) (ke .state .log-is) w t x (a .0) (o .0) (o .1) in
+    let meet : one .0 ≡ rest .0 = some-inj (sym (one .1) ∙ rest .2) in
+    (o .0, rest .1, o .1, rest .3, alike-trans t (o .0) (rest .0) (rest .1) (subst (Alike t (o .0)) meet (one .2)) (rest .4))
+
+-- stamps rise
+since-rises : (h : Head) (c : List ℕ) (g : ℕ → ℕ → Option Entry) (begin s : ℕ) → Keeps h c g begin s → (es : List Entry) (d : List ℕ) → Since c es d
+    → All (λ e. s < e .stamp) es
+since-rises h c g begin s ke [] d q = tt
+since-rises h c g begin s ke (e ∷ es) d q =
+    let up = keeps-passed h c g begin s ke e (q .1) (q .0) (q .2) .1 in
+    let rest = since-rises h (q .0) (more g e) begin (e .stamp) (keeps-step h c g begin s ke e (q .1) (q .0) (q .2)) es d (q .3) in
+    (up, all-map (λ d. e .stamp < d .stamp) (λ d. s < d .stamp) (λ d l. omega arith) es rest)
+
+left-past : (t : ℕ) (es : List Entry) → All (λ e. t < e .stamp) es → left t es ≡ []
+unfolding left
+left-past t es a = only-none (λ e. leb (e .stamp) t) es (all-map (λ e. t < e .stamp) (λ e. leb (e .stamp) t ≡ false) (λ e l. lt-leb (e .stamp) t l) es a)
+
+left-keep : (t : ℕ) (e : Entry) (es : List Entry) → e .stamp ≤ t → left t (e ∷ es) ≡ e ∷ left t es
+unfolding left only
+left-keep t e es le = rw (le-leb (e .stamp) t le)
+
+-- so the card of the entries up to t walks as of t as the last card does
+replay : (h : Head) (c : List ℕ) (g : ℕ → ℕ → Option Entry) (begin s : ℕ) → Keeps h c g begin s → (t : ℕ) → begin ≤ t
+    → (es : List Entry) (d : List ℕ) → Since c es d → (then : List ℕ) × Since c (left t es) then × SameWalks h t then d
+replay h c g begin s ke t le [] d q = (c, subst (λ z. Since c z c) (sym (left-past t [] tt)) refl, same-walks h c g begin s ke t le d q)
+replay h c g begin s ke t le (e ∷ es) d q =
+    let new = q .0 in
+    let ke1 = keeps-step h c g begin s ke e (q .1) new (q .2) in
+    ⊎-elim
+    (λ (up : e .stamp ≤ t).
+    let r = replay h new (more g e) begin (e .stamp) ke1 t le es d (q .3) in
+    (r .0, subst (λ z. Since c z (r .0)) (sym (left-keep t e es up)) (new, q .1, q .2, r .1), r .2))
+    (λ (down : t < e .stamp).
+    let past : All (λ x. t < x .stamp) (e ∷ es)
+    = (down, all-map (λ x. e .stamp < x .stamp) (λ x. t < x .stamp) (λ x l. omega arith) es (since-rises h new (more g e) begin (e .stamp) ke1 es d (q .3))) in
+    (c, subst (λ z. Since c z c) (sym (left-past t (e ∷ es) past)) refl, late-walks h c g begin s ke t le (e ∷ es) d q past))
+    (le-or-lt (e .stamp) t)
+
+look-alike : (h : Head) (c d : List ℕ) → headOf c ≡ some h → headOf d ≡ some h → (t x : ℕ) (p q : List Visit) → walk h c t x ≡ some p
+    → walk h d t x ≡ some q
+    → length p ≡ length q → left t (dataOf p) ≡ left t (dataOf q) → look c x t ≡ look d x t
+unfolding look lookIn lookOn standsOn
+look-alike h c d hc hd t x p q wp wq l e = rw (hc, hd, wp, wq, l, e)
+
+-- one beginning, two histories that agree up to t
+looks-alike : (h : Head) (c : List ℕ) (g : ℕ → ℕ → Option Entry) (begin s : ℕ) → Keeps h c g begin s → (t : ℕ) → begin ≤ t
+    → (es fs : List Entry) (d b : List ℕ) → Since c es d → Since c fs b → left t es ≡ left t fs → (x : ℕ) → x < 4294967296 → look d x t ≡ look b x t
+looks-alike h c g begin s ke t le es fs d b p q agree x lt =
+    let one = replay h c g begin s ke t le es d p in
+    let two = replay h c g begin s ke t le fs b q in
+    let same : one .0 ≡ two .0 = same-card c (left t fs) (one .0) (two .0) (subst (λ z. Since c z (one .0)) agree (one .1)) (two .1) in
+    let u = one .2 x lt in
+    let v = two .2 x lt in
+    let meet : u .0 ≡ v .0 = some-inj (sym (u .2) ∙ ap (λ z. walk h z t x) same ∙ v .2) in
+    look-alike h d b (since-keeps h c g begin s ke es d p .1 .state .head) (since-keeps h c g begin s ke fs b q .1 .state .head) t x (u .1) (v .1) (u .3) (v .3)
+    (sym (alike-length t (u .0) (u .1) (u .4)) ∙ ap length meet ∙ alike-length t (v .0) (v .1) (v .4))
+    (sym (alike-data t (u .0) (u .1) (u .4)) ∙ ap (λ z. left t (dataOf z)) meet ∙ alike-data t (v .0) (v .1) (v .4))
+
+next-alike : (t k : ℕ) (es fs : List Entry) → left t es ≡ left t fs → nextAsOf t k es ≡ nextAsOf t k fs
+unfolding nextAsOf
+next-alike t k es fs agree = ap (standingAbove k) agree
+
+pub cards-answer-alike : CardsAnswerAlike
+cards-answer-alike h card other f e calls others s z t agree bib lt =
+    let ke = formatted-keeps h card f in
+    let ka = formatted-keeps h other e in
+    let same : other ≡ card = same-format h other card e f in
+    let since = calls-since h card (λ x. nothing) 0 0 ke calls s in
+    let since2 = subst (λ c. Since c (accepted other others) (cardAfter other others)) same (calls-since h other (λ x. nothing) 0 0 ka others z) in (
+      looks-alike h card (λ x. nothing) 0 0 ke t (omega arith) (accepted card calls) (accepted other others) (cardAfter card calls) (cardAfter other others) since since2 agree bib lt,
+      next-tells-the-truth h card f calls s bib t lt ∙ ap found (next-alike t bib (accepted card calls) (accepted other others) agree) ∙ sym (next-tells-the-truth h other e others z bib t lt),
+    )

@@ -1,0 +1,155 @@
+-- Nothing is overwritten, on any card.
+use mathlib.Core.Option.{Option, none, some}
+use mathlib.Core.Bool.{true, false}
+use Prim.Native.Nat.{ℕ, suc, _+_, _*_, _≤_}
+use mathlib.Core.Path.{refl, sym, ap, subst, _∙_, _≡_}
+use mathlib.Core.List.{List, [], _∷_}
+use lib.ListN.{length, replicate}
+use native.Mathlib.Omega.{arith}
+use Rattle.rules.specs.declared.Entry.{Entry}
+use Rattle.rules.specs.declared.Head.{Head}
+use Rattle.rules.specs.Layout.{headOf, sizeOf, headBytes}
+use Rattle.rules.specs.Sector.{sectorAt, rootEntry, postEntry, strikeEntry, indexEntry, put, encode}
+use Rattle.rules.specs.Write.{Plan, planFor, planCard, post, strike, plan, accept, refuse}
+use Rattle.rules.specs.Format.{formatFor, format, formatted, dummy, meant}
+use Rattle.rules.specs.Calls.{Call, formatCall, postCall, strikeCall, lookCall, nextCall, called, planned, answered}
+use Rattle.rules.specs.Rewrite.{into}
+use Rattle.rules.specs.Plain.{zeros}
+use Rattle.laws.proofs.Bytes.{Bytes}
+use Rattle.laws.proofs.Codec.{length-encode}
+use Rattle.laws.proofs.Heads.{Lim, limits-hold, head-facts, head-length, head-says}
+use Rattle.laws.proofs.Into.{Stays}
+use Rattle.laws.proofs.Plans.{no-accept}
+use Rattle.laws.proofs.Puts.{Puts, in-card}
+use Rattle.laws.proofs.Entries.{root-says, Asks, post-asks, strike-asks}
+use Rattle.laws.proofs.Sectors.{length-put, sector-put-same, sector-put-other, sector-lies, sector-length}
+use Rattle.laws.proofs.Tools.{true-false}
+use Rattle.laws.proofs.Writes.{call-puts, format-chain}
+use Rattle.laws.proofs.Zeros.{zero-sector, sixteen-zeros, zeros-sixteen}
+use Rattle.tree.proofs.Begin.{format-inv}
+use Rattle.promises.specs.Promises.{OfBytes, NoneOf, AllDifferent, WrittenAt, NothingIsOverwritten}
+use Rattle.promises.specs.Calls.{Sized}
+
+blank-lies : (card : List ℕ) (i : ℕ) → sectorAt card i ≡ replicate 16 0 → 16 * i + 16 ≤ length card
+blank-lies card i e = sector-lies card i (ap length e)
+
+blank-zeros : (card : List ℕ) (i : ℕ) → sectorAt card i ≡ replicate 16 0 → zeros (sectorAt card i) ≡ true
+blank-zeros card i e = ap zeros e ∙ sixteen-zeros
+
+-- of writes to blank sectors: the length stays, written sectors stay, and no sector is met twice
+written-length : (card : List ℕ) (is new : List ℕ) → WrittenAt card is new → length new ≡ length card
+written-length card [] new w = ap length (sym w)
+written-length card (i ∷ is) new w = written-length (put card i (w .0)) is new (w .4) ∙ length-put card i (w .0) (w .2) (blank-lies card i (w .1))
+
+-- a sector that is written is not the one written to
+not-there : (card : List ℕ) (i j : ℕ) → sectorAt card i ≡ replicate 16 0 → zeros (sectorAt card j) ≡ false → j ≡ i → ⊥
+not-there card i j b z ji = true-false (sym (blank-zeros card i b) ∙ ap (λ k. zeros (sectorAt card k)) (sym ji) ∙ z)
+
+written-stays : (card : List ℕ) (is new : List ℕ) → WrittenAt card is new → Stays card new
+written-stays card [] new w j z = ap (λ c. sectorAt c j) (sym w)
+written-stays card (i ∷ is) new w j z =
+    let other = sector-put-other card i j (w .0) (w .2) (blank-lies card i (w .1)) (not-there card i j (w .1) z) in
+    written-stays (put card i (w .0)) is new (w .4) j (ap zeros other ∙ z) ∙ other
+
+written-away : (card : List ℕ) (is new : List ℕ) → WrittenAt card is new → (j : ℕ) → zeros (sectorAt card j) ≡ false → NoneOf j is
+written-away card [] new w j z = tt
+written-away card (i ∷ is) new w j z =
+    let ne = not-there card i j (w .1) z in
+    let other = sector-put-other card i j (w .0) (w .2) (blank-lies card i (w .1)) ne in
+    (ne, written-away (put card i (w .0)) is new (w .4) j (ap zeros other ∙ z))
+
+written-different : (card : List ℕ) (is new : List ℕ) → WrittenAt card is new → AllDifferent is
+written-different card [] new w = tt
+written-different card (i ∷ is) new w =
+    let here = sector-put-same card i (w .0) (w .2) (blank-lies card i (w .1)) in
+    (written-away (put card i (w .0)) is new (w .4) i (ap zeros here ∙ w .3), written-different (put card i (w .0)) is new (w .4))
+
+puts-written : (h : Head) (Q : Entry → Type 0) (card is new : List ℕ) → sizeOf h ≡ length card → Puts h Q card is new → WrittenAt card is new
+puts-written h Q card [] new size p = p
+puts-written h Q card (i ∷ is) new size p =
+    let d = p .0 in
+    let lies = in-card h card size i (p .1 .high) in (
+      encode d,
+      zeros-sixteen (sectorAt card i) (p .1 .blank) (sector-length card i lies),
+      length-encode d,
+      p .1 .says,
+      puts-written h Q (put card i (encode d)) is new (size ∙ sym (length-put card i (encode d) (length-encode d) lies)) (p .2),
+    )
+
+-- what is promised of the card that a call leaves follows from its writes
+abbrev Left : List ℕ → List ℕ → Type 0
+Left card new = (is : List ℕ) × WrittenAt card is new
+
+left-promise : (card new : List ℕ) → Left card new
+    → (length new ≡ length card) × ((j : ℕ) → zeros (sectorAt card j) ≡ false → sectorAt new j ≡ sectorAt card j) × ((is : List ℕ) × AllDifferent is × WrittenAt card is new)
+left-promise card new l =
+    (written-length card (l .0) new (l .1), written-stays card (l .0) new (l .1), (l .0, written-different card (l .0) new (l .1), l .1))
+
+formatted-left : (h : Head) (card : List ℕ) → Lim h → length card ≡ sizeOf h → zeros card ≡ true → Left card (formatted h card)
+unfolding formatted sizeOf
+formatted-left h card l size z =
+    let n2 = l .n2 in
+    let head = headBytes h 0 in
+    let root = rootEntry 0 1 in
+    let c1 = put card 0 head in
+    let l1 = length-put card 0 head (head-length h) (omega arith) in
+    let c2 = put c1 1 (encode root) in
+    let l2 = length-put c1 1 (encode root) (length-encode root) (omega arith) in
+    let one = sector-put-other card 0 1 head (head-length h) (omega arith) (λ e. omega arith) in
+    let size2 = sym size ∙ sym l1 ∙ sym l2 in
+    let c4 = into h 2 (dummy ∷ []) (into h 1 (indexEntry 0 0 2 ∷ []) c2) in
+    let rest = format-chain h c2 n2 size2 in (
+      0 ∷ 1 ∷ rest .0,
+      (
+        head,
+        zeros-sixteen (sectorAt card 0) (zero-sector card 0 z) (sector-length card 0 (omega arith)),
+        head-length h,
+        head-says h,
+        (
+          encode root,
+          zeros-sixteen (sectorAt c1 1) (ap zeros one ∙ zero-sector card 1 z) (sector-length c1 1 (omega arith)),
+          length-encode root,
+          root-says 0 1,
+          puts-written h (λ d. d .stamp ≤ 0) c2 (rest .0) c4 size2 (rest .1),
+        ),
+      ),
+    )
+
+format-left : (card : List ℕ) (h : Head) (p : Plan) → formatFor card h ≡ p → Left card (planCard card p)
+unfolding planCard
+format-left card h (refuse c) q = ([], refl)
+format-left card h (accept new) q =
+    let i = format-inv card h new q in
+    subst (Left card) (i .3) (formatted-left h card (limits-hold h (i .0)) (i .1) (i .2))
+
+-- post and strike
+get-bytes : (xs : List ℕ) → OfBytes xs → Bytes xs
+get-bytes [] f = tt
+get-bytes (x ∷ xs) f = (f 0, get-bytes xs (λ i. f (suc i)))
+
+headless : (card : List ℕ) (e : Entry) (new : List ℕ) → headOf card ≡ none → plan card e ≡ accept new → ⊥
+unfolding plan planFor
+headless card e new hq q = no-accept 1 new (rw hq at q)
+
+plan-left : (card : List ℕ) → Bytes card → (e : Entry) → Asks e → (o : Option Head) → headOf card ≡ o → (p : Plan) → plan card e ≡ p
+    → Left card (planCard card p)
+unfolding planCard
+plan-left card by e a none hq (refuse c) q = ([], refl)
+plan-left card by e a none hq (accept new) q = absurd (headless card e new hq q)
+plan-left card by e a (some h) hq (refuse c) q = ([], refl)
+plan-left card by e a (some h) hq (accept new) q =
+    let c = call-puts h card hq by e a new q in
+    (c .0, puts-written h (λ d. d .stamp ≤ e .stamp) card (c .0) new (head-facts card h hq .1) (c .1))
+
+call-left : (card : List ℕ) → Bytes card → (k : Call) → Sized k → Left card (called card k .card)
+unfolding called planned answered format post strike
+call-left card by (formatCall n m td ti) s = format-left card (meant n m td ti) (formatFor card (meant n m td ti)) refl
+call-left card by (postCall bib at time) s =
+    plan-left card by (postEntry bib at time) (post-asks bib at time (s .0) (s .1) (s .2)) (headOf card) refl (plan card (postEntry bib at time)) refl
+call-left card by (strikeCall bib at) s =
+    plan-left card by (strikeEntry bib at) (strike-asks bib at (s .0) (s .1)) (headOf card) refl (plan card (strikeEntry bib at)) refl
+call-left card by (lookCall bib t) s = ([], refl)
+call-left card by (nextCall bib t) s = ([], refl)
+
+pub nothing-is-overwritten : NothingIsOverwritten
+nothing-is-overwritten card by k s = left-promise card (called card k .card) (call-left card (get-bytes card by) k s)

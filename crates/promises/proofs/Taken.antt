@@ -1,0 +1,118 @@
+-- Nothing is refused without cause, on a card of our own making.
+use mathlib.Core.Option.{Option, none, some}
+use mathlib.Core.Bool.{Bool, not}
+use Prim.Native.Nat.{ℕ, _+_, _≤_, _<_}
+use mathlib.Core.Path.{refl, sym, ap, subst, _∙_, _≡_}
+use mathlib.Core.Logic.{inl, inr, ⊎-elim, _⊎_}
+use mathlib.Core.List.{List, [], _∷_}
+use borrow.Author.Tests.{lt-leb, ne-eqb, lt-ltb}
+use native.Mathlib.Omega.{arith}
+use Rattle.rules.specs.declared.Entry.{Entry}
+use Rattle.rules.specs.declared.Head.{Head}
+use Rattle.rules.specs.Rewrite.{Rise}
+use Rattle.rules.specs.Walk.{Visit}
+use Rattle.rules.specs.Write.{topUsed, Plan, refuseIf, stampOn, planOn, planAt, planFor, logFull, checked, refuse, rooted, climb, finish, plan, post, strike, latest}
+use Rattle.rules.specs.Sector.{isPost, postEntry, strikeEntry}
+use Rattle.rules.specs.Plain.{isNone, _&_}
+use Rattle.laws.proofs.Fresh.{freshAfter}
+use Rattle.laws.proofs.Tools.{le-or-lt, none-some}
+use Rattle.laws.proofs.Used.{used-within}
+use Rattle.laws.proofs.Entries.{Asks, asks-small, post-asks, strike-asks}
+use Rattle.tree.proofs.Ends.{ends-here}
+use Rattle.tree.proofs.Keeps.{Keeps, write-walk, keeps-write}
+use Rattle.tree.proofs.Tree.{some-inj}
+use Rattle.tree.proofs.Begin.{nothing}
+use Rattle.promises.specs.Promises.{TakenUnlessFull, PostIsTaken, StrikeIsTaken}
+use Rattle.promises.specs.Calls.{cardAfter, standsAsOf, accepted, needed, remaining}
+use Rattle.promises.proofs.Reading.{after-plain}
+use Rattle.promises.proofs.Truth.{calls-keep}
+use Rattle.promises.proofs.Since.{after}
+
+-- more fresh buckets than there are numbers up to n: refused
+checked-refuse : (h : Head) (full : Bool) (r : Rise) → h .n + 1 < r .fresh → checked h full r ≡ refuse 6
+unfolding checked refuseIf
+checked-refuse h full r gt = rw (lt-ltb (h .n + 1) (r .fresh) gt)
+
+on-refuse : (h : Head) (card : List ℕ) (e : Entry) (p : List Visit) → h .n + 1 < freshAfter h card e p → planOn h card e p ≡ refuse 6
+unfolding planOn finish freshAfter
+on-refuse h card e p gt =
+    let r = climb h (e .stamp) p (record { hand = e ∷ []; fresh = topUsed h card (h .n) + 1; card = card }) in
+    checked-refuse h (logFull h (r .card) (r .hand)) (rooted h (e .stamp) (r .hand) r) gt
+
+enough : (h : Head) (card : List ℕ) (e : Entry) (p : List Visit) → freshAfter h card e p ≤ h .n + 1 → needed h card e p ≤ remaining h card
+unfolding needed remaining freshAfter
+enough h card e p le = let within = used-within h card (h .n) in omega arith
+
+too-few : (h : Head) (card : List ℕ) (e : Entry) (p : List Visit) → h .n + 1 < freshAfter h card e p → remaining h card < needed h card e p
+unfolding needed remaining freshAfter
+too-few h card e p gt = let le = used-within h card (h .n) in omega arith
+
+module _ (h : Head) (card : List ℕ) (g : ℕ → ℕ → Option Entry) (begin s : ℕ) (ke : Keeps h card g begin s) (e : Entry) (asks : Asks e) (key : 1 ≤ e .key) (above : s < e .stamp) where
+  abbrev p : List Visit
+  p = write-walk h card g begin s ke e asks .0
+
+  on-taken : TakenUnlessFull h card e (planOn h card e p)
+  on-taken = (
+    p,
+    write-walk h card g begin s ke e asks .1,
+    ⊎-elim
+        (λ (le : freshAfter h card e p ≤ h .n + 1). inl (enough h card e p le, keeps-write h card g begin s ke e asks key above .1 le))
+        (λ (gt : h .n + 1 < freshAfter h card e p). inr (too-few h card e p gt, on-refuse h card e p gt))
+        (le-or-lt (freshAfter h card e p) (h .n + 1)),
+  )
+
+  -- of the refusals 1 to 5 only 5 is left, for a strike where nothing stands
+  plan-is : plan card e ≡ refuseIf (not (isPost e) & isNone (g latest (e .key))) 5 (planOn h card e p)
+  unfolding plan planFor planAt refuseIf
+  plan-is =
+      let sm = ke .small in
+      let si = ke .since in
+      let top = ke .top in
+      let a = ke .answers latest (e .key) (omega arith) (asks-small e asks) in
+      let there = ends-here (g latest) latest (e .key) 0 4294967296 (a .0) (a .2) in
+      let same : a .0 ≡ p = some-inj (sym (a .1) ∙ write-walk h card g begin s ke e asks .1) in
+      rw (ke .state .head, ne-eqb (e .key) 0 (λ z. omega arith), lt-leb (e .stamp) (stampOn h card) (omega arith), a .1, there)
+      (ap (λ q. refuseIf (not (isPost e) & isNone (g latest (e .key))) 5 (planOn h card e q)) same)
+
+post-plan : (b : Bool) (bib at time : ℕ) (p : Plan) → refuseIf (not (isPost (postEntry bib at time)) & b) 5 p ≡ p
+unfolding refuseIf isPost
+post-plan b bib at time p = refl
+
+strike-plan : (b : Bool) (bib at : ℕ) (p : Plan) → refuseIf (not (isPost (strikeEntry bib at)) & b) 5 p ≡ refuseIf b 5 p
+unfolding isPost
+strike-plan b bib at p = refl
+
+pub post-is-taken : PostIsTaken
+unfolding post
+post-is-taken h card f calls s bib at time b1 a1 z up =
+    let k = calls-keep h card f calls s in
+    let g = after (λ t. nothing) (accepted card calls) in
+    let d = cardAfter card calls in
+    let e = postEntry bib at time in
+    let asks = post-asks bib at time (z .0) (z .1) (z .2) in
+    let above = k .2 at a1 up in
+    subst (TakenUnlessFull h d e)
+    (sym (plan-is h d g 0 (k .0) (k .1) e asks b1 above ∙ post-plan (isNone (g latest bib)) bib at time (planOn h d e (write-walk h d g 0 (k .0) (k .1) e asks .0))))
+    (on-taken h d g 0 (k .0) (k .1) e asks b1 above)
+
+-- a strike where o stands
+struck : (h : Head) (card : List ℕ) (e : Entry) (o : Option Entry) (q p : Plan) → TakenUnlessFull h card e p → q ≡ refuseIf (isNone o) 5 p
+    → ((o ≡ none) × (q ≡ refuse 5)) ⊎ ((o ≡ none → ⊥) × TakenUnlessFull h card e q)
+unfolding isNone refuseIf
+struck h card e none q p t eq = inl (refl, eq)
+struck h card e (some d) q p t eq = inr ((λ n. none-some (sym n)), subst (TakenUnlessFull h card e) (sym eq) t)
+
+pub strike-is-taken : StrikeIsTaken
+unfolding strike
+strike-is-taken h card f calls s bib at b1 a1 z up =
+    let k = calls-keep h card f calls s in
+    let es = accepted card calls in
+    let g = after (λ t. nothing) es in
+    let d = cardAfter card calls in
+    let e = strikeEntry bib at in
+    let asks = strike-asks bib at (z .0) (z .1) in
+    let above = k .2 at a1 up in
+    let on = planOn h d e (write-walk h d g 0 (k .0) (k .1) e asks .0) in
+    struck h d e (standsAsOf latest bib es) (plan d e) on (on-taken h d g 0 (k .0) (k .1) e asks b1 above)
+    (plan-is h d g 0 (k .0) (k .1) e asks b1 above ∙ strike-plan (isNone (g latest bib)) bib at on
+    ∙ ap (λ o. refuseIf (isNone o) 5 on) (after-plain es latest bib))

@@ -1,0 +1,125 @@
+-- What the card promises, over any list of calls: the statements alone, in the rules' own words. Their proofs stand in proofs/.
+use mathlib.Core.Path.{_≡_}
+use mathlib.Core.Logic.{_⊎_}
+use mathlib.Core.Bool.{false}
+use Prim.Native.Nat.{ℕ, _≤_, _<_}
+use mathlib.Core.List.{List, [], _∷_}
+use mathlib.Core.Option.{none, some}
+use lib.ListN.{length, getD, replicate}
+use Rattle.rules.specs.declared.Entry.{Entry}
+use Rattle.rules.specs.declared.Head.{Head}
+use Rattle.rules.specs.declared.Digits.{Digits}
+use Rattle.rules.specs.Plain.{zeros}
+use Rattle.rules.specs.Sector.{sectorAt, put, postEntry, strikeEntry}
+use Rattle.rules.specs.Walk.{Visit, left, walk}
+use Rattle.rules.specs.Answers.{refused, sheet}
+use Rattle.rules.specs.Look.{look}
+use Rattle.rules.specs.Next.{next}
+use Rattle.rules.specs.Write.{Plan, refuse, accept, latest, post, strike}
+use Rattle.rules.specs.Panel.{panel}
+use Rattle.rules.specs.Calls.{Call, postCall, strikeCall, lookCall, nextCall, Done, called}
+use Rattle.promises.specs.Calls.{Formatted, Sized, AllSized, cardAfter, accepted, standsAsOf, nextAsOf, found, Above, needed, remaining}
+
+-- 1. A look answers 0, the bib, and the stamp and time of the last accepted entry for it stamped t or earlier if that is a post,
+-- else stamp 0 and time 0. It never answers damage.
+abbrev pub LookTellsTheTruth : Type 0
+LookTellsTheTruth =
+    (h : Head) (card : List ℕ) → Formatted h card → (calls : List Call) → AllSized calls → (bib t : ℕ) → 1 ≤ bib → bib < 4294967296
+    → look (cardAfter card calls) bib t ≡ sheet bib (look (cardAfter card calls) bib t .reads) (standsAsOf t bib (accepted card calls))
+
+-- Its reads are the buckets on the path of the walk.
+abbrev pub ReadsCountThePath : Type 0
+ReadsCountThePath =
+    (h : Head) (card : List ℕ) → Formatted h card → (calls : List Call) → AllSized calls → (bib t : ℕ) → 1 ≤ bib → bib < 4294967296
+    → (p : List Visit) × (walk h (cardAfter card calls) t bib ≡ some p) × (look (cardAfter card calls) bib t .reads ≡ length p)
+
+-- 2. A next answers the smallest bib above k that stands as of t, with its stamp and time; the end exactly when none does.
+abbrev pub NextTellsTheTruth : Type 0
+NextTellsTheTruth =
+    (h : Head) (card : List ℕ) → Formatted h card → (calls : List Call) → AllSized calls → (k t : ℕ) → k < 4294967296
+    → next (cardAfter card calls) k t ≡ found (nextAsOf t k (accepted card calls))
+
+-- 3. Two cards with the same four numbers in the head whose accepted entries stamped up to t agree
+-- answer every look and next as of t alike, reads included.
+abbrev pub CardsAnswerAlike : Type 0
+CardsAnswerAlike =
+    (h : Head) (card other : List ℕ) → Formatted h card → Formatted h other
+    → (calls others : List Call) → AllSized calls → AllSized others
+    → (t : ℕ) → left t (accepted card calls) ≡ left t (accepted other others)
+    → (bib : ℕ) → bib < 4294967296
+    → (look (cardAfter card calls) bib t ≡ look (cardAfter other others) bib t)
+    × (next (cardAfter card calls) bib t ≡ next (cardAfter other others) bib t)
+
+-- the elements of a card are bytes
+abbrev pub OfBytes : List ℕ → Type 0
+OfBytes card = (i : ℕ) → getD card i 0 < 256
+
+-- the sectors are all different
+abbrev pub NoneOf : ℕ → List ℕ → Type 0
+NoneOf i [] = Unit {0}
+NoneOf i (j ∷ js) = (i ≡ j → ⊥) × NoneOf i js
+
+abbrev pub AllDifferent : List ℕ → Type 0
+AllDifferent [] = Unit {0}
+AllDifferent (i ∷ is) = NoneOf i is × AllDifferent is
+
+-- the new card comes of the card by writes to these sectors, one after the other:
+-- each is of sixteen zero bytes when it is written, and no more afterwards
+abbrev pub WrittenAt : List ℕ → List ℕ → List ℕ → Type 0
+WrittenAt card [] new = card ≡ new
+WrittenAt card (i ∷ is) new =
+    (bytes : List ℕ) × (sectorAt card i ≡ replicate 16 0) × (length bytes ≡ 16) × (zeros bytes ≡ false) × WrittenAt (put card i bytes) is new
+
+-- 4. Nothing is overwritten, by any call on any card of bytes, foreign ones too: the length stays, a sector that is not blank stays,
+-- and each write goes to sixteen zero bytes, no two of a call to the same sector.
+abbrev pub NothingIsOverwritten : Type 0
+NothingIsOverwritten =
+    (card : List ℕ) → OfBytes card → (k : Call) → Sized k
+    → (length (called card k .card) ≡ length card)
+    × ((j : ℕ) → zeros (sectorAt card j) ≡ false → sectorAt (called card k .card) j ≡ sectorAt card j)
+    × ((is : List ℕ) × AllDifferent is × WrittenAt card is (called card k .card))
+
+-- a write of e is accepted where the fresh buckets needed remain, and else refused with 6
+abbrev pub TakenUnlessFull : Head → List ℕ → Entry → Plan → Type 0
+TakenUnlessFull h card e plan =
+    (p : List Visit) × (walk h card latest (e .key) ≡ some p)
+    × (((needed h card e p ≤ remaining h card) × ((new : List ℕ) × (plan ≡ accept new)))
+    ⊎ ((remaining h card < needed h card e p) × (plan ≡ refuse 6)))
+
+-- 5. Nothing is refused without cause: a post with a bib from 1 and a stamp above every accepted one is accepted
+-- unless too few fresh buckets are left; the log has always room.
+abbrev pub PostIsTaken : Type 0
+PostIsTaken =
+    (h : Head) (card : List ℕ) → Formatted h card → (calls : List Call) → AllSized calls
+    → (bib at time : ℕ) → 1 ≤ bib → 1 ≤ at → Sized (postCall bib at time) → Above at (accepted card calls)
+    → TakenUnlessFull h (cardAfter card calls) (postEntry bib at time) (post (cardAfter card calls) bib at time)
+
+-- A strike likewise, where something stands; where nothing does it is refused with 5.
+abbrev pub StrikeIsTaken : Type 0
+StrikeIsTaken =
+    (h : Head) (card : List ℕ) → Formatted h card → (calls : List Call) → AllSized calls
+    → (bib at : ℕ) → 1 ≤ bib → 1 ≤ at → Sized (strikeCall bib at) → Above at (accepted card calls)
+    → ((standsAsOf latest bib (accepted card calls) ≡ none) × (strike (cardAfter card calls) bib at ≡ refuse 5))
+    ⊎ ((standsAsOf latest bib (accepted card calls) ≡ none → ⊥)
+    × TakenUnlessFull h (cardAfter card calls) (strikeEntry bib at) (strike (cardAfter card calls) bib at))
+
+-- an outcome, answer and bytes afterwards, that fits what is said of a call on a card
+abbrev pub FitsCall : List ℕ → Call → Done → Type 0
+FitsCall card k done = (done .answer ≡ called card k .answer) × (done .card ≡ called card k .card)
+
+-- 6. What is said of a call settles its outcome: two that fit it are equal.
+abbrev pub CallsAreSettled : Type 0
+CallsAreSettled = (card : List ℕ) (k : Call) (one two : Done) → FitsCall card k one → FitsCall card k two → one ≡ two
+
+abbrev pub PanelIsSettled : Type 0
+PanelIsSettled = (time field : ℕ) (one two : Digits) → one ≡ panel time field → two ≡ panel time field → one ≡ two
+
+-- 7. A call that is refused leaves the card as it was, and gives zeros beside its number; on every card, with every argument.
+abbrev pub RefusedMeansUnchanged : Type 0
+RefusedMeansUnchanged =
+    (card : List ℕ) (k : Call) → (called card k .answer .code ≡ 0 → ⊥)
+    → (called card k .card ≡ card) × (called card k .answer ≡ refused (called card k .answer .code))
+
+-- Reads never change the card.
+abbrev pub ReadsChangeNothing : Type 0
+ReadsChangeNothing = (card : List ℕ) (bib t : ℕ) → (called card (lookCall bib t) .card ≡ card) × (called card (nextCall bib t) .card ≡ card)

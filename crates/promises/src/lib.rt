@@ -1,0 +1,1 @@
+// What the card promises over any list of calls; no code.
