@@ -24,7 +24,7 @@ impl List {
 
     /// The last entry of `bib` stamped `at` or earlier decides. Reads are the card's own matter: 0.
     pub fn look(&self, bib: u32, at: u32) -> Answer {
-        let last = self.0.iter().filter(|said| said.bib == bib && said.at <= at).last();
+        let last = self.0.iter().rfind(|said| said.bib == bib && said.at <= at);
         match last {
             Some(Said { at, time: Some(time), .. }) => {
                 Answer { bib, at: *at, time: *time, ..Answer::ACCEPTED }
