@@ -1,11 +1,11 @@
 //! A bucket or the log, judged whole: a run of entries that belong together, then blanks.
 
-use crate::sector::{all_zero, decode, number, Entry, Kind, Sector, SECTOR};
+use crate::sector::{all_zero, decode, number, sectors, Bytes, Entry, Kind, Sector};
 
 /// The written run of a bucket or log that is not damaged.
 #[derive(Clone, Copy)]
 pub struct Run<'a> {
-    written: &'a [u8],
+    written: &'a [Bytes],
     blanks: usize,
     buckets: u32,
 }
@@ -16,7 +16,7 @@ impl<'a> Run<'a> {
     fn judged(part: &'a [u8], buckets: u32, belongs: impl Fn(Entry, Entry) -> bool) -> Option<Run<'a>> {
         let mut first = None;
         let mut end = 0;
-        for sector in part.chunks_exact(SECTOR) {
+        for sector in sectors(part) {
             match decode(sector, buckets) {
                 Sector::Damaged => return None,
                 Sector::Blank => break,
@@ -24,12 +24,12 @@ impl<'a> Run<'a> {
                     if !belongs(*first.get_or_insert(entry), entry) {
                         return None;
                     }
-                    end += SECTOR;
+                    end += 1;
                 }
             }
         }
-        let (written, rest) = part.split_at(end);
-        (end > 0 && all_zero(rest)).then_some(Run { written, blanks: rest.len() / SECTOR, buckets })
+        let (written, rest) = sectors(part).split_at(end);
+        (end > 0 && all_zero(rest.as_flattened())).then_some(Run { written, blanks: rest.len(), buckets })
     }
 
     /// The log holds only root entries.
@@ -47,12 +47,12 @@ impl<'a> Run<'a> {
     }
 
     pub fn is_index(&self) -> bool {
-        self.written[0] == Kind::Index as u8
+        self.written[0][0] == Kind::Index as u8
     }
 
     /// The key of the first sector.
     pub fn header(&self) -> u32 {
-        number(self.written, 4)
+        number(&self.written[0], 4)
     }
 
     pub fn blanks(&self) -> usize {
@@ -61,12 +61,12 @@ impl<'a> Run<'a> {
 
     /// The number of written sectors, which is the place of the first blank where there is one.
     pub fn len(&self) -> usize {
-        self.written.len() / SECTOR
+        self.written.len()
     }
 
     pub fn entries(&self) -> impl Iterator<Item = Entry> + 'a {
         let buckets = self.buckets;
-        self.written.chunks_exact(SECTOR).map(move |sector| match decode(sector, buckets) {
+        self.written.iter().map(move |sector| match decode(sector, buckets) {
             Sector::Entry(entry) => entry,
             _ => unreachable!("the run was judged"),
         })

@@ -28,7 +28,7 @@ impl Head {
 
     /// The head of a card whose head and length keep the layout.
     pub fn of(card: &[u8]) -> Option<Head> {
-        let first = card.get(..SECTOR)?;
+        let first = card.first_chunk::<SECTOR>()?;
         let head = Head {
             sectors: first[1].into(),
             td: first[2].into(),

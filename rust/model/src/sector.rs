@@ -2,6 +2,8 @@
 
 pub const SECTOR: usize = 16;
 
+pub type Bytes = [u8; SECTOR];
+
 #[derive(Clone, Copy, Debug, PartialEq, Eq)]
 pub enum Kind {
     Post = 1,
@@ -24,47 +26,41 @@ pub enum Sector {
     Damaged,
 }
 
+/// A part of the card as its sectors.
+pub fn sectors(part: &[u8]) -> &[Bytes] {
+    part.as_chunks().0
+}
+
 /// The 32-bit number at byte `from` of a sector.
-pub fn number(sector: &[u8], from: usize) -> u32 {
+pub fn number(sector: &Bytes, from: usize) -> u32 {
     u32::from_le_bytes([sector[from], sector[from + 1], sector[from + 2], sector[from + 3]])
 }
 
 /// Whether every byte is zero. Eight sectors at a time, so that a long blank stretch costs little.
 pub fn all_zero(bytes: &[u8]) -> bool {
-    bytes.chunks(8 * SECTOR).all(|chunk| chunk.iter().fold(0, |any, byte| any | byte) == 0)
+    let (chunks, rest) = bytes.as_chunks::<{ 8 * SECTOR }>();
+    chunks.iter().all(|chunk| chunk.iter().fold(0, |any, byte| any | byte) == 0)
+        && rest.iter().all(|&byte| byte == 0)
 }
 
 /// What a sector past the head is, on a card of `buckets` buckets.
-pub fn decode(sector: &[u8], buckets: u32) -> Sector {
-    if all_zero(sector) {
+pub fn decode(sector: &Bytes, buckets: u32) -> Sector {
+    if *sector == [0; SECTOR] {
         return Sector::Blank;
     }
-    if sector[1] != 0 || sector[2] != 0 || sector[3] != 0 {
+    if sector[1..4] != [0; 3] {
         return Sector::Damaged;
     }
-    let entry =
-        |kind| Entry { kind, key: number(sector, 4), stamp: number(sector, 8), value: number(sector, 12) };
-    let (read, sound) = match sector[0] {
-        1 => {
-            let e = entry(Kind::Post);
-            (e, e.key >= 1 && e.stamp >= 1)
-        }
-        2 => {
-            let e = entry(Kind::Strike);
-            (e, e.value == 0 && (e.key != 0 || e.stamp == 0))
-        }
-        3 => {
-            let e = entry(Kind::Index);
-            (e, (1..=buckets).contains(&e.value))
-        }
-        4 => {
-            let e = entry(Kind::Root);
-            (e, e.key == 0 && (1..=buckets).contains(&e.value))
-        }
+    let (key, stamp, value) = (number(sector, 4), number(sector, 8), number(sector, 12));
+    let (kind, sound) = match sector[0] {
+        1 => (Kind::Post, key >= 1 && stamp >= 1),
+        2 => (Kind::Strike, value == 0 && (key != 0 || stamp == 0)),
+        3 => (Kind::Index, (1..=buckets).contains(&value)),
+        4 => (Kind::Root, key == 0 && (1..=buckets).contains(&value)),
         _ => return Sector::Damaged,
     };
     if sound {
-        Sector::Entry(read)
+        Sector::Entry(Entry { kind, key, stamp, value })
     } else {
         Sector::Damaged
     }

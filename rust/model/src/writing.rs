@@ -4,7 +4,7 @@ use crate::answer::Answer;
 use crate::head::Head;
 use crate::reading::standing;
 use crate::rewrite::Plan;
-use crate::sector::{all_zero, encode, number, Entry, Kind, SECTOR};
+use crate::sector::{all_zero, encode, number, sectors, Entry, Kind, SECTOR};
 use crate::walk::walk;
 
 /// Writes walk with this t: no entry is later.
@@ -75,8 +75,12 @@ fn planned(card: &[u8], entry: Entry) -> Result<Plan, u32> {
 
 /// The largest stamp field of any bucket sector with nonzero kind, or 0.
 fn largest_stamp(area: &[u8]) -> u32 {
-    area.chunks_exact(SECTOR)
-        .map(|sector| if sector[0] != 0 { number(sector, 8) } else { 0 })
-        .max()
-        .unwrap_or(0)
+    let mut largest = 0;
+    for sector in sectors(area) {
+        let stamp = number(sector, 8);
+        if sector[0] != 0 && stamp > largest {
+            largest = stamp;
+        }
+    }
+    largest
 }
