@@ -3,38 +3,10 @@
 mod common;
 
 use card_model::call::Call;
-use common::bytes::{first_sector, put, put_head};
-use common::length;
+use common::bytes::put;
+use common::deep::{self, first, SECTORS};
 use common::pair::Pair;
 use std::thread;
-
-const BUCKETS: u32 = 4096;
-const SECTORS: u32 = 4;
-
-fn first(bucket: u32) -> usize {
-    first_sector(BUCKETS, SECTORS, bucket)
-}
-
-/// `levels` index buckets, each led to by key 0 and holding `written(level)` copies of key 0, and
-/// below them a full data bucket. With `keys`, the copies have keys 0, 1, 2, .. in their stead, so
-/// that the bucket is rewritten to two.
-fn deep_card(levels: u32, written: impl Fn(u32) -> u32, keys: bool) -> Vec<u8> {
-    let mut card = vec![0; length(BUCKETS, SECTORS)];
-    put_head(&mut card, BUCKETS, SECTORS, 3, 4);
-    put(&mut card, 1, (4, 0, 0, 1));
-    for level in 1..=levels {
-        for i in 0..written(level) {
-            let key = if keys { 10 * i } else { 0 };
-            put(&mut card, first(level) + i as usize, (3, key, i, level + 1));
-        }
-    }
-    let data = first(levels + 1);
-    put(&mut card, data, (2, 0, 0, 0));
-    for i in 1..SECTORS {
-        put(&mut card, data + i as usize, (1, 1, i, 100));
-    }
-    card
-}
 
 /// The answer numbers of a look, a post of `bib`, a look and a next on the card.
 fn on_a_small_stack(card: Vec<u8>, bib: u32) -> [u32; 4] {
@@ -52,23 +24,23 @@ fn on_a_small_stack(card: Vec<u8>, bib: u32) -> [u32; 4] {
 
 #[test]
 fn refused_where_every_level_is_full() {
-    assert_eq!(on_a_small_stack(deep_card(2048, |_| 4, false), 1), [0, 6, 0, 0]);
+    assert_eq!(on_a_small_stack(deep::card(2048, |_| 4, false), 1), [0, 6, 0, 0]);
 }
 
 /// 2,047 levels and the data bucket are rewritten to the other 2,048 buckets, the last one the root.
 /// A bib that splits the data bucket is one bucket too many.
 #[test]
 fn accepted_where_it_just_fits() {
-    assert_eq!(on_a_small_stack(deep_card(2047, |_| 4, false), 1), [0, 0, 0, 0]);
-    assert_eq!(on_a_small_stack(deep_card(2047, |_| 4, false), 2), [0, 6, 0, 0]);
+    assert_eq!(on_a_small_stack(deep::card(2047, |_| 4, false), 1), [0, 0, 0, 0]);
+    assert_eq!(on_a_small_stack(deep::card(2047, |_| 4, false), 2), [0, 6, 0, 0]);
 }
 
 /// 2,048 levels, all full but the uppermost three.
 #[test]
 fn accepted_where_an_upper_level_has_room() {
     let written = |level| if level <= 3 { 2 } else { 4 };
-    assert_eq!(on_a_small_stack(deep_card(2048, written, false), 1), [0, 0, 0, 0]);
-    assert_eq!(on_a_small_stack(deep_card(2048, written, false), 2), [0, 0, 0, 0]);
+    assert_eq!(on_a_small_stack(deep::card(2048, written, false), 1), [0, 0, 0, 0]);
+    assert_eq!(on_a_small_stack(deep::card(2048, written, false), 2), [0, 0, 0, 0]);
 }
 
 /// Each level splits in two, and none has room for two pairs. 1,364 levels and the data bucket take
@@ -76,16 +48,16 @@ fn accepted_where_an_upper_level_has_room() {
 /// another header, which a next finds.
 #[test]
 fn levels_that_split() {
-    assert_eq!(on_a_small_stack(deep_card(1364, |_| 4, true), 2), [0, 0, 0, 4]);
-    assert_eq!(on_a_small_stack(deep_card(1365, |_| 4, true), 2), [0, 6, 0, 4]);
-    assert_eq!(on_a_small_stack(deep_card(1364, |_| 3, true), 2), [0, 0, 0, 4]);
+    assert_eq!(on_a_small_stack(deep::card(1364, |_| 4, true), 2), [0, 0, 0, 4]);
+    assert_eq!(on_a_small_stack(deep::card(1365, |_| 4, true), 2), [0, 6, 0, 4]);
+    assert_eq!(on_a_small_stack(deep::card(1364, |_| 3, true), 2), [0, 0, 0, 4]);
 }
 
 /// A path may have N buckets if the last is data; N buckets without data are damage.
 #[test]
 fn the_longest_path() {
-    assert_eq!(on_a_small_stack(deep_card(4095, |_| 1, false), 1), [0, 6, 0, 0]);
-    let mut card = deep_card(4095, |_| 1, false);
+    assert_eq!(on_a_small_stack(deep::card(4095, |_| 1, false), 1), [0, 6, 0, 0]);
+    let mut card = deep::card(4095, |_| 1, false);
     for i in 0..SECTORS as usize {
         put(&mut card, first(4096) + i, (3, 0, 0, 1));
     }

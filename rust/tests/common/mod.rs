@@ -3,6 +3,7 @@
 #![allow(dead_code)] // each test takes what it wants of this
 
 pub mod bytes;
+pub mod deep;
 pub mod foreign;
 pub mod growth;
 pub mod guarded;
@@ -56,7 +57,8 @@ pub fn rounds(name: &str, share: u64, wanted: &[usize], mut round: impl FnMut(u6
     }
 }
 
-fn setting(variable: &str, usual: u64) -> u64 {
+/// A number from the environment, or the usual one.
+pub fn setting(variable: &str, usual: u64) -> u64 {
     match env::var(variable) {
         Ok(said) => said.parse().unwrap_or_else(|_| panic!("{variable} is not a number")),
         Err(_) => usual,
