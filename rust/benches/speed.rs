@@ -2,7 +2,7 @@
 //!
 //! `cargo bench --bench speed` prints a table of medians. Each round times both sides on the same
 //! input, one directly after the other, and the side that goes first changes from round to round.
-//! `CARD_ROUNDS` is the number of rounds.
+//! `CARD_ROUNDS` is the number of rounds; a word after `--` picks the lines that have it.
 
 #[path = "../tests/common/mod.rs"]
 mod common;
@@ -13,6 +13,7 @@ use common::growth::Geometry;
 use common::random::Random;
 use common::{setting, LIBRARY};
 use grown::Grown;
+use std::env;
 use std::hint::black_box;
 use std::time::Instant;
 
@@ -39,8 +40,17 @@ fn median(mut values: Vec<f64>) -> f64 {
     values[values.len() / 2]
 }
 
+/// Whether a line was asked for; `cargo bench` adds a flag of its own.
+fn picked(what: &str) -> bool {
+    let mut words = env::args().skip(1).filter(|word| !word.starts_with("--")).peekable();
+    words.peek().is_none() || words.any(|word| what.contains(&word))
+}
+
 /// Both sides, round by round, each on its own copy of the card; prints a line of the table.
 fn compare(name: &str, what: &str, card: &[u8], mut round: impl FnMut() -> Vec<Call>) {
+    if !picked(what) {
+        return;
+    }
     let rounds = setting("CARD_ROUNDS", 101);
     let (mut library, mut model) = (Vec::new(), Vec::new());
     let (mut one, mut other) = (card.to_vec(), card.to_vec());
