@@ -22,6 +22,9 @@ pub struct Digits {
     pub places: [u8; 6],
 }
 
+// as include/card.h has them
+const _: () = assert!(size_of::<Answer>() == 20 && size_of::<Digits>() == 12);
+
 mod library {
     use super::{Answer, Digits};
 
