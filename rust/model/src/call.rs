@@ -1,0 +1,46 @@
+//! The calls as a table and as values, so that one check runs against any implementation.
+
+use crate::{Answer, Digits};
+
+/// One implementation's calls.
+#[derive(Clone, Copy)]
+pub struct Calls {
+    pub format: fn(&mut [u8], u32, u32, u32, u32) -> Answer,
+    pub post: fn(&mut [u8], u32, u32, u32) -> Answer,
+    pub strike: fn(&mut [u8], u32, u32) -> Answer,
+    pub look: fn(&[u8], u32, u32) -> Answer,
+    pub next: fn(&[u8], u32, u32) -> Answer,
+    pub digits: fn(u32, u32) -> Digits,
+}
+
+/// This package's own.
+pub const MODEL: Calls = Calls {
+    format: crate::format,
+    post: crate::post,
+    strike: crate::strike,
+    look: crate::look,
+    next: crate::next,
+    digits: crate::digits,
+};
+
+/// A call on a card.
+#[derive(Clone, Copy, Debug, PartialEq, Eq)]
+pub enum Call {
+    Format { buckets: u32, sectors: u32, td: u32, ti: u32 },
+    Post { bib: u32, at: u32, time: u32 },
+    Strike { bib: u32, at: u32 },
+    Look { bib: u32, at: u32 },
+    Next { bib: u32, at: u32 },
+}
+
+impl Call {
+    pub fn run(self, calls: &Calls, card: &mut [u8]) -> Answer {
+        match self {
+            Call::Format { buckets, sectors, td, ti } => (calls.format)(card, buckets, sectors, td, ti),
+            Call::Post { bib, at, time } => (calls.post)(card, bib, at, time),
+            Call::Strike { bib, at } => (calls.strike)(card, bib, at),
+            Call::Look { bib, at } => (calls.look)(card, bib, at),
+            Call::Next { bib, at } => (calls.next)(card, bib, at),
+        }
+    }
+}

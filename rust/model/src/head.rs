@@ -1,0 +1,73 @@
+//! The card's head: its geometry, and where the log and the buckets lie.
+
+use crate::sector::{all_zero, number, SECTOR};
+
+#[derive(Clone, Copy)]
+pub struct Head {
+    /// m, the sectors of a bucket.
+    pub sectors: u32,
+    pub td: u32,
+    pub ti: u32,
+    /// N, the buckets of the card.
+    pub buckets: u32,
+}
+
+impl Head {
+    pub fn within_limits(&self) -> bool {
+        let m = self.sectors;
+        (4..=32).contains(&m)
+            && (2..=4096).contains(&self.buckets)
+            && (2..=m).contains(&self.td)
+            && (4..=m).contains(&self.ti)
+    }
+
+    /// The card's length in bytes; the head has to be within the limits.
+    pub fn length(&self) -> usize {
+        SECTOR * (1 + self.buckets as usize * (self.sectors as usize + 1))
+    }
+
+    /// The head of a card whose head and length keep the layout.
+    pub fn of(card: &[u8]) -> Option<Head> {
+        let first = card.first_chunk::<SECTOR>()?;
+        let head = Head {
+            sectors: first[1].into(),
+            td: first[2].into(),
+            ti: first[3].into(),
+            buckets: number(first, 4),
+        };
+        let kept =
+            first[0] == 6 && all_zero(&first[8..]) && head.within_limits() && card.len() == head.length();
+        kept.then_some(head)
+    }
+
+    pub fn write(&self, card: &mut [u8]) {
+        card[0] = 6;
+        card[1] = self.sectors as u8;
+        card[2] = self.td as u8;
+        card[3] = self.ti as u8;
+        card[4..8].copy_from_slice(&self.buckets.to_le_bytes());
+    }
+
+    pub fn bucket_bytes(&self) -> usize {
+        SECTOR * self.sectors as usize
+    }
+
+    /// Where sector `sector` of bucket `bucket` begins.
+    pub fn place(&self, bucket: u32, sector: usize) -> usize {
+        self.area() + (bucket as usize - 1) * self.bucket_bytes() + SECTOR * sector
+    }
+
+    /// Where bucket 1 begins.
+    pub fn area(&self) -> usize {
+        SECTOR * (1 + self.buckets as usize)
+    }
+
+    pub fn log<'a>(&self, card: &'a [u8]) -> &'a [u8] {
+        &card[SECTOR..self.area()]
+    }
+
+    pub fn bucket<'a>(&self, card: &'a [u8], bucket: u32) -> &'a [u8] {
+        let from = self.place(bucket, 0);
+        &card[from..from + self.bucket_bytes()]
+    }
+}

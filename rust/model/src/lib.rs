@@ -1,0 +1,23 @@
+//! The card's rules a second time.
+//!
+//! Written from the words of document 01 alone, so that a mistake in the proved library's rules
+//! and a mistake here are not the same mistake. Every call takes every slice of bytes, answers
+//! with the paper's five numbers and leaves the card as the paper says.
+
+mod answer;
+mod bucket;
+pub mod call;
+mod head;
+pub mod list;
+mod panel;
+pub mod paper;
+mod reading;
+mod rewrite;
+mod sector;
+mod walk;
+mod writing;
+
+pub use answer::Answer;
+pub use panel::{digits, Digits};
+pub use reading::{look, next};
+pub use writing::{format, post, strike};

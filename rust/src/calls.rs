@@ -1,0 +1,123 @@
+//! The calls, in Rust types.
+
+use crate::numbers::{self, Answer};
+use crate::{Look, Panel, Record, Refusal, Shape};
+
+/// The answer of an accepted call, or the refusal.
+fn accepted(answer: Answer) -> Result<Answer, Refusal> {
+    refused(answer.code).map_or(Ok(answer), Err)
+}
+
+fn refused(number: u32) -> Option<Refusal> {
+    (number != 0).then(|| Refusal::from_number(number).expect("the library answers by document 01's numbers"))
+}
+
+/// Makes a blank card, all bytes zero and as long as the shape asks, an empty one.
+///
+/// Refused as [`Refusal::Shape`] or [`Refusal::NotBlank`].
+///
+/// ```
+/// use card::{Refusal, Shape};
+///
+/// let shape = Shape::new(16, 4);
+/// let mut bytes = vec![0; shape.bytes().unwrap()];
+/// assert_eq!(card::format(&mut bytes, shape), Ok(()));
+/// assert_eq!(card::format(&mut bytes, shape), Err(Refusal::NotBlank));
+/// assert_eq!(card::format(&mut bytes[1..], shape), Err(Refusal::Shape));
+/// ```
+pub fn format(card: &mut [u8], shape: Shape) -> Result<(), Refusal> {
+    accepted(numbers::format(card, shape.buckets, shape.sectors, shape.td, shape.ti)).map(drop)
+}
+
+/// Writes a time for a bib: a first one or a correction. The stamp has to be above every stamp on
+/// the card.
+///
+/// Refused as [`Refusal::Layout`], [`Refusal::NoBib`], [`Refusal::Stamp`], [`Refusal::Damage`] or
+/// [`Refusal::Full`], the first of these that holds.
+///
+/// ```
+/// # use card::{Refusal, Shape};
+/// # let mut bytes = vec![0; Shape::new(16, 4).bytes().unwrap()];
+/// # card::format(&mut bytes, Shape::new(16, 4))?;
+/// card::post(&mut bytes, 7, 100, 59_990)?;
+/// assert_eq!(card::post(&mut bytes, 7, 100, 59_980), Err(Refusal::Stamp));
+/// card::post(&mut bytes, 7, 101, 59_980)?;
+/// assert_eq!(card::look(&bytes, 7, 101)?.record.unwrap().time, 59_980);
+/// # Ok::<(), Refusal>(())
+/// ```
+pub fn post(card: &mut [u8], bib: u32, at: u32, time: u32) -> Result<(), Refusal> {
+    accepted(numbers::post(card, bib, at, time)).map(drop)
+}
+
+/// Erases what stands for a bib. It is still there for questions as of an earlier stamp.
+///
+/// Refused as [`post`] is, and as [`Refusal::NothingStands`] ahead of [`Refusal::Full`].
+///
+/// ```
+/// # use card::{Refusal, Shape};
+/// # let mut bytes = vec![0; Shape::new(16, 4).bytes().unwrap()];
+/// # card::format(&mut bytes, Shape::new(16, 4))?;
+/// card::post(&mut bytes, 7, 100, 59_990)?;
+/// card::strike(&mut bytes, 7, 101)?;
+/// assert_eq!(card::strike(&mut bytes, 7, 102), Err(Refusal::NothingStands));
+/// # Ok::<(), Refusal>(())
+/// ```
+pub fn strike(card: &mut [u8], bib: u32, at: u32) -> Result<(), Refusal> {
+    accepted(numbers::strike(card, bib, at)).map(drop)
+}
+
+/// What stands for a bib as of a stamp, and the buckets read to find it.
+///
+/// Refused as [`Refusal::Layout`], [`Refusal::NoBib`] or [`Refusal::Damage`].
+///
+/// ```
+/// # use card::{Look, Record, Refusal, Shape};
+/// # let mut bytes = vec![0; Shape::new(16, 4).bytes().unwrap()];
+/// # card::format(&mut bytes, Shape::new(16, 4))?;
+/// card::post(&mut bytes, 7, 100, 59_990)?;
+/// let record = Record { bib: 7, at: 100, time: 59_990 };
+/// assert_eq!(card::look(&bytes, 7, 200), Ok(Look { record: Some(record), reads: 2 }));
+/// assert_eq!(card::look(&bytes, 7, 99), Ok(Look { record: None, reads: 2 }));
+/// # Ok::<(), Refusal>(())
+/// ```
+pub fn look(card: &[u8], bib: u32, at: u32) -> Result<Look, Refusal> {
+    let answer = accepted(numbers::look(card, bib, at))?;
+    Ok(Look { record: Record::of(answer), reads: answer.reads })
+}
+
+/// The record of the smallest bib above `bib` that stands as of a stamp, or `None` at the end.
+/// From bib 0 it is the first record of the card; [`crate::scroll`] gives them all.
+///
+/// Refused as [`Refusal::Layout`] or [`Refusal::Damage`].
+///
+/// ```
+/// # use card::{Refusal, Shape};
+/// # let mut bytes = vec![0; Shape::new(16, 4).bytes().unwrap()];
+/// # card::format(&mut bytes, Shape::new(16, 4))?;
+/// card::post(&mut bytes, 7, 100, 59_990)?;
+/// assert_eq!(card::next(&bytes, 0, 100)?.unwrap().bib, 7);
+/// assert_eq!(card::next(&bytes, 7, 100)?, None);
+/// # Ok::<(), Refusal>(())
+/// ```
+pub fn next(card: &[u8], bib: u32, at: u32) -> Result<Option<Record>, Refusal> {
+    accepted(numbers::next(card, bib, at)).map(Record::of)
+}
+
+/// The digits of a time in thousandths on a panel field of 4, 5 or 6 places: seconds and
+/// hundredths, then one or two minute digits. The thousandths digit is dropped.
+///
+/// Refused as [`Refusal::Panel`] where the time does not fit or there is no such field.
+///
+/// ```
+/// assert_eq!(card::digits(59_999, 4)?.digits(), [5, 9, 9, 9]);
+/// assert_eq!(card::digits(60_000, 4), Err(card::Refusal::Panel));
+/// assert_eq!(card::digits(60_000, 5)?.to_string(), "1:00.00");
+/// # Ok::<(), card::Refusal>(())
+/// ```
+pub fn digits(time: u32, field: u32) -> Result<Panel, Refusal> {
+    let answer = numbers::digits(time, field);
+    match refused(answer.code) {
+        Some(refusal) => Err(refusal),
+        None => Ok(Panel { places: answer.places, field: field as usize }),
+    }
+}

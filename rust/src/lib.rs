@@ -1,0 +1,43 @@
+//! Race results on a write-once card.
+//!
+//! A card is a slice of bytes. Nothing written on it is ever written over: a correction or an
+//! erasure is a further entry, and every question can be asked as of any past stamp. The calls are
+//! those of the proved library `libcard.a`; this crate lends it slices and turns its numbers into
+//! Rust types. No call panics, whatever bytes the card holds.
+//!
+//! ```
+//! use card::{Record, Shape};
+//!
+//! let shape = Shape::new(16, 4).td(3).ti(4);
+//! let mut bytes = vec![0; shape.bytes().unwrap()];
+//! card::format(&mut bytes, shape)?;
+//!
+//! card::post(&mut bytes, 8, 10, 61_230)?;
+//! card::post(&mut bytes, 3, 20, 58_900)?;
+//! card::strike(&mut bytes, 8, 50)?;
+//!
+//! // as of stamp 49 the time of bib 8 stands, as of 50 it does not
+//! let then = card::look(&bytes, 8, 49)?;
+//! assert_eq!(then.record, Some(Record { bib: 8, at: 10, time: 61_230 }));
+//! assert_eq!(card::look(&bytes, 8, 50)?.record, None);
+//!
+//! // all that stood as of stamp 49, by rising bib
+//! let bibs: Result<Vec<u32>, _> = card::scroll(&bytes, 49).map(|r| r.map(|r| r.bib)).collect();
+//! assert_eq!(bibs?, [3, 8]);
+//! # Ok::<(), card::Refusal>(())
+//! ```
+
+mod calls;
+pub mod numbers;
+mod panel;
+mod record;
+mod refusal;
+mod scroll;
+mod shape;
+
+pub use calls::{digits, format, look, next, post, strike};
+pub use panel::Panel;
+pub use record::{Look, Record};
+pub use refusal::Refusal;
+pub use scroll::{scroll, Scroll};
+pub use shape::Shape;

@@ -1,0 +1,73 @@
+//! The calls as the library itself answers them: a number and the values beside it.
+//!
+//! The functions of the crate's root say the same in Rust types; these are for a caller that
+//! stores or prints the numbers.
+
+/// A call's answer: its number, 0 or a refusal, and four values, all zero beside a refusal.
+#[repr(C)]
+#[derive(Clone, Copy, Debug, Default, PartialEq, Eq)]
+pub struct Answer {
+    pub code: u32,
+    pub bib: u32,
+    pub at: u32,
+    pub time: u32,
+    pub reads: u32,
+}
+
+/// The panel routine's answer: its number, 0 or 7, and six places, all zero beside a refusal.
+#[repr(C)]
+#[derive(Clone, Copy, Debug, Default, PartialEq, Eq)]
+pub struct Digits {
+    pub code: u32,
+    pub places: [u8; 6],
+}
+
+// as include/card.h has them
+const _: () = assert!(size_of::<Answer>() == 20 && size_of::<Digits>() == 12);
+
+mod library {
+    use super::{Answer, Digits};
+
+    extern "C" {
+        pub fn card_format(card: *mut u8, len: usize, buckets: u32, sectors: u32, td: u32, ti: u32)
+            -> Answer;
+        pub fn card_post(card: *mut u8, len: usize, bib: u32, at: u32, time: u32) -> Answer;
+        pub fn card_strike(card: *mut u8, len: usize, bib: u32, at: u32) -> Answer;
+        pub fn card_look(card: *const u8, len: usize, bib: u32, at: u32) -> Answer;
+        pub fn card_next(card: *const u8, len: usize, bib: u32, at: u32) -> Answer;
+        pub fn card_digits(time: u32, field: u32) -> Digits;
+    }
+}
+
+// Each call below is sound for one reason: the library takes every card and every number, and it
+// reads and writes only the `len` bytes from `card`, which the slice lends for the call alone.
+
+/// As [`crate::format`].
+pub fn format(card: &mut [u8], buckets: u32, sectors: u32, td: u32, ti: u32) -> Answer {
+    unsafe { library::card_format(card.as_mut_ptr(), card.len(), buckets, sectors, td, ti) }
+}
+
+/// As [`crate::post`].
+pub fn post(card: &mut [u8], bib: u32, at: u32, time: u32) -> Answer {
+    unsafe { library::card_post(card.as_mut_ptr(), card.len(), bib, at, time) }
+}
+
+/// As [`crate::strike`].
+pub fn strike(card: &mut [u8], bib: u32, at: u32) -> Answer {
+    unsafe { library::card_strike(card.as_mut_ptr(), card.len(), bib, at) }
+}
+
+/// As [`crate::look`].
+pub fn look(card: &[u8], bib: u32, at: u32) -> Answer {
+    unsafe { library::card_look(card.as_ptr(), card.len(), bib, at) }
+}
+
+/// As [`crate::next`].
+pub fn next(card: &[u8], bib: u32, at: u32) -> Answer {
+    unsafe { library::card_next(card.as_ptr(), card.len(), bib, at) }
+}
+
+/// As [`crate::digits`].
+pub fn digits(time: u32, field: u32) -> Digits {
+    unsafe { library::card_digits(time, field) }
+}

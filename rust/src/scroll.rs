@@ -1,0 +1,46 @@
+//! All records that stand, one at a time.
+
+use crate::{next, Record, Refusal};
+
+/// The records that stand as of a stamp, by rising bib. It holds the card it reads and the bib
+/// last given, and nothing else.
+#[derive(Clone, Debug)]
+pub struct Scroll<'a> {
+    card: &'a [u8],
+    at: u32,
+    bib: u32,
+    over: bool,
+}
+
+/// Scrolls through a card as of a stamp. A refusal is given once and ends it.
+///
+/// ```
+/// # use card::{Refusal, Shape};
+/// # let mut bytes = vec![0; Shape::new(16, 4).bytes().unwrap()];
+/// # card::format(&mut bytes, Shape::new(16, 4))?;
+/// card::post(&mut bytes, 7, 100, 59_990)?;
+/// card::post(&mut bytes, 5, 110, 58_120)?;
+/// let times: Vec<u32> = card::scroll(&bytes, 110).map(|r| r.unwrap().time).collect();
+/// assert_eq!(times, [58_120, 59_990]);
+/// assert_eq!(card::scroll(&[], 110).collect::<Vec<_>>(), [Err(Refusal::Layout)]);
+/// # Ok::<(), Refusal>(())
+/// ```
+pub fn scroll(card: &[u8], at: u32) -> Scroll<'_> {
+    Scroll { card, at, bib: 0, over: false }
+}
+
+impl Iterator for Scroll<'_> {
+    type Item = Result<Record, Refusal>;
+
+    fn next(&mut self) -> Option<Self::Item> {
+        if self.over {
+            return None;
+        }
+        let step = next(self.card, self.bib, self.at).transpose();
+        match step {
+            Some(Ok(record)) => self.bib = record.bib,
+            _ => self.over = true,
+        }
+        step
+    }
+}

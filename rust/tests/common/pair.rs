@@ -1,0 +1,57 @@
+//! One card under the library and under the model, every answer and every byte compared.
+
+use super::guarded::Guarded;
+use super::LIBRARY;
+use card_model::call::{Call, MODEL};
+use card_model::Answer;
+
+/// How often each answer number was given.
+pub type Tally = [u64; 10];
+
+pub struct Pair {
+    seed: u64,
+    lent: Guarded,
+    own: Vec<u8>,
+    pub calls: u64,
+    pub tally: Tally,
+}
+
+impl Pair {
+    pub fn new(seed: u64, card: Vec<u8>) -> Pair {
+        Pair { seed, lent: Guarded::new(&card, seed as usize % 16), own: card, calls: 0, tally: [0; 10] }
+    }
+
+    pub fn card(&self) -> &[u8] {
+        &self.own
+    }
+
+    /// Makes a call on both and gives the answer, which has to be one.
+    pub fn call(&mut self, call: Call) -> Answer {
+        self.calls += 1;
+        let expected = call.run(&MODEL, &mut self.own);
+        let answer = call.run(&LIBRARY, self.lent.card_mut());
+        if answer != expected {
+            self.differs(call, &format!("library {answer:?}, model {expected:?}"));
+        }
+        if self.lent.card() != self.own {
+            let place = (0..self.own.len()).find(|&i| self.lent.card()[i] != self.own[i]).unwrap();
+            self.differs(call, &format!("answer {answer:?}, first other byte at {place}"));
+        }
+        if !self.lent.whole() {
+            self.differs(call, "a byte outside the card was written");
+        }
+        self.tally[answer.code as usize] += 1;
+        answer
+    }
+
+    fn differs(&self, call: Call, what: &str) -> ! {
+        panic!("CARD_SEED={}: call {} of the round, {call:?}: {what}", self.seed, self.calls)
+    }
+
+    /// Fails with the seed where an answer is not as expected.
+    pub fn expect(&self, call: Call, answer: Answer, expected: Answer, whose: &str) {
+        if answer != expected {
+            self.differs(call, &format!("library {answer:?}, {whose} {expected:?}"));
+        }
+    }
+}

@@ -1,0 +1,112 @@
+//! As of every past stamp the card says what the plain list of accepted entries says, and what it
+//! said itself at the time.
+
+mod common;
+
+use card_model::call::Call;
+use card_model::list::{List, Said};
+use card_model::Answer;
+use common::growth::{Day, Geometry};
+use common::pair::Pair;
+use common::random::Random;
+use common::rounds;
+
+/// Writes on a fresh card; gives the accepted entries, and the answers to some questions asked as
+/// of the stamp just accepted.
+fn grow(pair: &mut Pair, random: &mut Random, writes: u32) -> (List, Vec<(Call, Answer)>) {
+    let mut day = Day::random(random);
+    let (mut list, mut said) = (List::default(), Vec::new());
+    for _ in 0..writes {
+        let call = day.write(random);
+        if pair.call(call).code != 0 {
+            continue;
+        }
+        let (bib, at, time) = match call {
+            Call::Post { bib, at, time } => (bib, at, Some(time)),
+            Call::Strike { bib, at } => (bib, at, None),
+            _ => unreachable!("only writes were made"),
+        };
+        list.push(Said { bib, at, time });
+        for question in [Call::Look { bib, at }, Call::Next { bib: bib - 1, at }, Call::Next { bib, at }] {
+            let answer = pair.call(question);
+            said.push((question, answer));
+        }
+    }
+    (list, said)
+}
+
+/// The stamps around each accepted one, and the bibs around each bib, each once.
+fn asked(list: &List) -> (Vec<u32>, Vec<u32>) {
+    let around = |number: u32| [number.saturating_sub(1), number, number.saturating_add(1)];
+    let each = |of: fn(&Said) -> u32| {
+        let mut all: Vec<u32> = list.entries().iter().flat_map(|said| around(of(said))).collect();
+        all.extend([0, 1, u32::MAX]);
+        all.sort_unstable();
+        all.dedup();
+        all
+    };
+    (each(|said| said.at), each(|said| said.bib))
+}
+
+/// Looks and nexts as of `at` for each of the bibs, against the list.
+fn against_the_list(pair: &mut Pair, list: &List, at: u32, bibs: &[u32]) {
+    for &bib in bibs {
+        let next = Call::Next { bib, at };
+        let answer = pair.call(next);
+        pair.expect(next, answer, list.next(bib, at), "plain list");
+        if bib > 0 {
+            let look = Call::Look { bib, at };
+            let answer = pair.call(look);
+            pair.expect(look, Answer { reads: 0, ..answer }, list.look(bib, at), "plain list");
+        }
+    }
+}
+
+#[test]
+fn every_past_stamp() {
+    rounds("past stamps", 25, &[0, 5, 6], |seed| {
+        let mut random = Random::new(seed);
+        let mut geometry = Geometry::random(&mut random);
+        geometry.buckets = geometry.buckets.min(300);
+        let mut pair = Pair::new(seed, vec![0; geometry.length()]);
+        pair.call(geometry.format());
+        let writes = random.of(&[20, 45, 90]);
+        let (list, said) = grow(&mut pair, &mut random, writes);
+        let (stamps, bibs) = asked(&list);
+        for at in stamps {
+            // every stamp, and of the bibs a dozen in turn
+            let from = random.index(bibs.len());
+            let some: Vec<u32> = bibs.iter().cycle().skip(from).take(bibs.len().min(12)).copied().collect();
+            against_the_list(&mut pair, &list, at, &some);
+        }
+        for (question, then) in said {
+            let now = pair.call(question);
+            pair.expect(question, now, then, "the answer given at the time");
+        }
+        pair.tally
+    });
+}
+
+/// Every stamp with every bib on one longer history.
+#[test]
+fn every_past_stamp_and_every_bib() {
+    let mut random = Random::new(5);
+    let geometry = Geometry { buckets: 400, sectors: 5, td: 3, ti: 4 };
+    let mut pair = Pair::new(5, vec![0; geometry.length()]);
+    pair.call(geometry.format());
+    let mut list = List::default();
+    for at in 1..=300 {
+        let bib = 2 * random.within(1, 60);
+        if random.chance(25) && pair.call(Call::Strike { bib, at }).code == 0 {
+            list.push(Said { bib, at, time: None });
+        } else {
+            assert_eq!(pair.call(Call::Post { bib, at, time: 7 * at }).code, 0);
+            list.push(Said { bib, at, time: Some(7 * at) });
+        }
+    }
+    let (stamps, bibs) = asked(&list);
+    for at in stamps {
+        against_the_list(&mut pair, &list, at, &bibs);
+    }
+    assert!(pair.calls > 60_000, "{} calls", pair.calls);
+}
