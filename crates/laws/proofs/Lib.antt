@@ -9,6 +9,7 @@ pub mod Copies
 pub mod Halves
 pub mod Entries
 pub mod Buckets
+pub mod Logs
 pub mod Blocks
 pub mod Blanks
 pub mod Bytes

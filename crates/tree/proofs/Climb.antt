@@ -98,7 +98,6 @@ module _ (h : Head) (lim : Lim h) (card : List ℕ) (g : ℕ → Option Entry) (
         (record {
           lim = lim;
           same1 = λ c cs q. q;
-          front1 = λ j lt. refl;
           late = true-and (le-leb (e .stamp) (e .stamp) (omega arith)) refl;
           added = inl (e, copy-snoc-same (e .key) (tr .0) e refl, refl, isd .1);
           ready1 = ready;
@@ -147,7 +146,6 @@ module _ (h : Head) (lim : Lim h) (card : List ℕ) (g : ℕ → Option Entry) (
         let nb : b ≡ c .spot → ⊥ = λ z. tree-not (bucket h card) g g b (suc k) lo hi tr lt (c .height) (c .spot) (c .low) (c .high) (w .3) (inr (inr (omega arith))) (c .spot-tree) (sym z) in
         record {
           ready = c .ready;
-          front = c .front;
           grows = c .grows;
           mark = c .mark;
           spot = c .spot;
@@ -209,7 +207,6 @@ module _ (h : Head) (lim : Lim h) (card : List ℕ) (g : ℕ → Option Entry) (
         record {
           lim = lim;
           same1 = o .opened .same;
-          front1 = o .opened .front;
           late = subst (Late (e .stamp)) (sym hand) (late-pair p [] (pr .3) (late-nil (e .stamp)));
           added = inr (o .opened .mark);
           ready1 = o .opened .ready;
@@ -241,7 +238,6 @@ module _ (h : Head) (lim : Lim h) (card : List ℕ) (g : ℕ → Option Entry) (
         record {
           lim = lim;
           same1 = o .opened .same;
-          front1 = o .opened .front;
           late = subst (Late (e .stamp)) (sym hand) (late-pair p (q ∷ []) (pr .3) (late-pair q [] (qr .3) (late-nil (e .stamp))));
           added = inr (o .opened .mark);
           ready1 = o .opened .ready;

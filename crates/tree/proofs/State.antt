@@ -1,5 +1,5 @@
 -- A card in order: its head, its log, and a tree that holds what stands.
-use mathlib.Core.Path.{_≡_, ap}
+use mathlib.Core.Path.{_≡_}
 use mathlib.Core.Logic.{⊎-elim}
 use mathlib.Core.Bool.{true}
 use mathlib.Core.Option.{Option, some}
@@ -11,20 +11,18 @@ use lib.Dec.{leb}
 use borrow.Author.Tests.{le-leb, le-ltb, lt-leb, lt-ltb}
 use Rattle.rules.specs.declared.Entry.{Entry}
 use Rattle.rules.specs.declared.Head.{Head}
-use Rattle.rules.specs.Bucket.{bucket, log, logBlanks, soundLog}
+use Rattle.rules.specs.Bucket.{bucket, log}
 use Rattle.rules.specs.Layout.{base, headOf}
-use Rattle.rules.specs.Plain.{andThen, larger, largest, lastOf, only}
-use Rattle.rules.specs.Sector.{sectorAt}
+use Rattle.rules.specs.Plain.{larger, largest, lastOf, only}
 use Rattle.rules.specs.Walk.{follow, left, path, pathFrom, pathIn, walk}
 use Rattle.laws.proofs.Tools.{le-or-lt}
 use Rattle.laws.proofs.Lists.{all-map, upper}
-use Rattle.laws.proofs.Run.{blanks-agree, run-agree}
 use Rattle.laws.proofs.Entries.{Good, Fine}
 use Rattle.laws.proofs.Bytes.{Bytes, run-good}
 use Rattle.laws.proofs.Halves.{only-every}
 use Rattle.laws.proofs.Buckets.{bucket-raw, raw}
+use Rattle.laws.proofs.Logs.{log-raw}
 use Rattle.tree.proofs.Tree.{Early, Kids, Reading, Tree}
-use Rattle.tree.proofs.Log.{log-raw}
 
 pub record State (h : Head) (card : List ℕ) (g : ℕ → Option Entry) (k : ℕ) : Type 0 where
   pub bytes : Bytes card
@@ -47,15 +45,6 @@ good-left n es g =
 
 pub early-max : (h : Head) (card : List ℕ) → Bytes card → Early 4294967295 (bucket h card)
 early-max h card b c es q = good-left (h .n) es (run-good (h .n) card b (base h c) (h .m) es (bucket-raw h card c es q .1))
-
-pub log-same : (h : Head) (card card' : List ℕ) → ((j : ℕ) → j < 1 + h .n → sectorAt card' j ≡ sectorAt card j) → log h card' ≡ log h card
-unfolding log
-log-same h card card' f = ap (λ z. andThen z soundLog) (run-agree (h .n) card' card 1 (h .n) (λ j p q. f j (omega arith)))
-
-pub log-blanks-same : (h : Head) (card card' : List ℕ) → ((j : ℕ) → j < 1 + h .n → sectorAt card' j ≡ sectorAt card j)
-    → logBlanks h card' ≡ logBlanks h card
-unfolding logBlanks
-log-blanks-same h card card' f = blanks-agree card' card 1 (h .n) (λ j p q. f j (omega arith))
 
 -- two pairs in a root of their own
 pub kids-pair : (rd : Reading) (g : ℕ → Option Entry) (k hi : ℕ) (p q : Entry) → p .key ≡ 0 → p .key < q .key → q .key < hi
