@@ -8,6 +8,7 @@ pub mod Lists
 pub mod Copies
 pub mod Halves
 pub mod Entries
+pub mod Left
 pub mod Buckets
 pub mod Logs
 pub mod Blocks

@@ -12,7 +12,7 @@ use Rattle.rules.specs.declared.Entry.{Entry}
 use Rattle.rules.specs.declared.Head.{Head}
 use Rattle.rules.specs.Bucket.{blanksOf, bucket}
 use Rattle.rules.specs.Layout.{base}
-use Rattle.rules.specs.Plain.{every, if}
+use Rattle.rules.specs.Plain.{if}
 use Rattle.rules.specs.Rewrite.{Rise, into, kept, keyOf, limitOf, oneBucket, pair, renew, twoBuckets}
 use Rattle.rules.specs.Sector.{isData, isIndex}
 use Rattle.rules.specs.Walk.{Visit, copyOf}
@@ -39,10 +39,6 @@ zip-span i lo hi m (e ∷ es) a b = ((a .0 .0, a .0 .1, b .0, a .0 .3), zip-span
 zip-span2 : (i : Bool) (lo hi m : ℕ) (es : List Entry) → All (Span i lo hi) es → All (λ e. m ≤ e .key) es → All (Span i m hi) es
 zip-span2 i lo hi m [] a b = tt
 zip-span2 i lo hi m (e ∷ es) a b = ((a .0 .0, b .0, a .0 .2, a .0 .3), zip-span2 i lo hi m es (a .1) (b .1))
-
-pub late-nil : (s : ℕ) → Late s []
-unfolding every
-late-nil s = refl
 
 -- what is known of a level before the hand is placed
 pub record Before (h : Head) (card : List ℕ) (g g' : ℕ → Option Entry) (k b lo hi s : ℕ) (r : Rise) (es : List Entry) : Type 0 where
@@ -75,7 +71,7 @@ module _ (h : Head) (card : List ℕ) (g g' : ℕ → Option Entry) (k b lo hi s
         grows = λ c cs q. ⊎-elim
             (λ cb. let e : cs ≡ es = cc (q, ap (bucket h card) cb, bf .here) in
             (r .hand, ap (bucket h card2) cb ∙ j .here ∙ ap (λ z. some (z ++ r .hand)) (sym e), bf .late))
-            (λ ne. ([], j .others c ne ∙ bf .same1 c cs q ∙ ap some (sym (append-nil cs)), late-nil s))
+            (λ ne. ([], j .others c ne ∙ bf .same1 c cs q ∙ ap some (sym (append-nil cs)), tt))
             (eq-or-ne c b);
         mark = ⊎-elim
             (λ (a : (p : Entry) × (copyOf (p .key) (es ++ r .hand) ≡ some p) × (p .stamp ≡ s) × (isData p ≡ true)).

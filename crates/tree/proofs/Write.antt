@@ -7,18 +7,17 @@ use Prim.Native.Nat.{_+_, _<_, _≤_, suc, ℕ}
 use native.Mathlib.Omega.{arith}
 use mathlib.Core.List.{List, [], _++_, _∷_, append-nil}
 use lib.ListN.{length, length-append}
-use borrow.Author.Tests.{le-leb, eqb-false, ne-eqb, le-ltb}
+use borrow.Author.Tests.{eqb-false, ne-eqb, le-ltb}
 use lib.Dec.{eqb}
 use Rattle.rules.specs.declared.Entry.{Entry}
 use Rattle.rules.specs.declared.Head.{Head}
 use Rattle.rules.specs.Bucket.{blanksOf, bucket, log, logBlanks}
 use Rattle.rules.specs.Layout.{base, sizeOf}
-use Rattle.rules.specs.Plain.{every}
 use Rattle.rules.specs.Rewrite.{Rise, fill, into, oneBucket}
 use Rattle.rules.specs.Sector.{isData, isIndex, isRoot, rootEntry, sectorAt}
 use Rattle.rules.specs.Walk.{Visit, path}
 use Rattle.rules.specs.Write.{accept, climb, finish, logFull, logged, planOn, rooted, topUsed, refuseIf, checked}
-use Rattle.laws.proofs.Tools.{true-and, true-false}
+use Rattle.laws.proofs.Tools.{true-false}
 use Rattle.laws.proofs.Lists.{All, last-snoc}
 use Rattle.laws.proofs.Blocks.{blank-room}
 use Rattle.laws.proofs.Entries.{Fine, root-fine}
@@ -34,7 +33,6 @@ use Rattle.tree.proofs.AsOf.{Grows, Late}
 use Rattle.tree.proofs.Tree.{Shape, Tree, tree-fresh}
 use Rattle.tree.proofs.Content.{shape-sound, tree-parts}
 use Rattle.tree.proofs.Outcome.{Closed, Mark, One, Open, Outcome, Two}
-use Rattle.tree.proofs.Level.{late-nil}
 use Rattle.tree.proofs.Climb.{climb-tree, start, upd}
 use Rattle.tree.proofs.Log.{log-step}
 use Rattle.tree.proofs.State.{State, early-max, kids-pair, state-walk}
@@ -51,15 +49,11 @@ pub record Wrote (h : Head) (card card' : List ℕ) (g' : ℕ → Option Entry) 
 
 all-grows : (h : Head) (card card' : List ℕ) (s : ℕ) → ((c : ℕ) (cs : List Entry) → bucket h card c ≡ some cs → bucket h card' c ≡ some cs)
     → Grows s (bucket h card) (bucket h card')
-all-grows h card card' s f c cs q = ([], f c cs q ∙ ap some (sym (append-nil cs)), late-nil s)
+all-grows h card card' s f c cs q = ([], f c cs q ∙ ap some (sym (append-nil cs)), tt)
 
 pub is-root : (s b : ℕ) → isRoot (rootEntry s b) ≡ true
 unfolding isRoot
 is-root s b = refl
-
-late-root : (s b : ℕ) → Late s (rootEntry s b ∷ [])
-unfolding every
-late-root s b = true-and (le-leb s s (omega arith)) refl
 
 module _ (h : Head) (card : List ℕ) (g g' : ℕ → Option Entry) (k s : ℕ) (st : State h card g k) (s32 : s < 4294967296) where
   -- the head and the log are as before
@@ -94,7 +88,7 @@ module _ (h : Head) (card : List ℕ) (g g' : ℕ → Option Entry) (k s : ℕ) 
         grows = c .grows;
         mark = c .mark;
         new-log = [];
-        log-grows = (ls ∙ ap some (sym (append-nil (st .logs))), late-nil s, tt);
+        log-grows = (ls ∙ ap some (sym (append-nil (st .logs))), tt, tt);
       }
 
   -- a new root b of height k', a fresh bucket of the card card1, logged
@@ -128,7 +122,7 @@ module _ (h : Head) (card : List ℕ) (g g' : ℕ → Option Entry) (k s : ℕ) 
         grows = all-grows h card card' s (λ c cs q. same c cs (op .same c cs q));
         mark = (let m = op .mark in (m .0, m .1, same (m .0) (m .1) (m .2), m .3));
         new-log = rootEntry s b ∷ [];
-        log-grows = (lg .logged, late-root s b, (omega arith, tt));
+        log-grows = (lg .logged, (omega arith, tt), (omega arith, tt));
       }
 
   one-state : (r : Rise) (p : Entry) → Front (r .card) → 1 ≤ length (logBlanks h (r .card)) → topUsed h card (h .n) < p .value
