@@ -35,10 +35,6 @@ unfolding soundBucket
 sound-inv [] gs eq = cc
 sound-inv (x ∷ es) gs eq = guard-true (every (joins x) (x ∷ es)) (x ∷ es) gs eq .1
 
-pub sound-every : (x : Entry) (es : List Entry) → soundBucket (x ∷ es) ≡ some (x ∷ es) → every (joins x) (x ∷ es) ≡ true
-unfolding soundBucket
-sound-every x es eq = guard-true (every (joins x) (x ∷ es)) (x ∷ es) (x ∷ es) eq .0
-
 -- the sectors of a bucket lie in the card, and apart from those of another
 pub bucket-in : (m n b : ℕ) → 1 ≤ b → b ≤ n → m * (b - 1) + m ≤ n * m
 bucket-in m n b lo hi =

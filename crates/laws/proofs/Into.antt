@@ -24,9 +24,6 @@ use Rattle.laws.proofs.Entries.{Good}
 abbrev pub Stays : List ℕ → List ℕ → Type 0
 Stays card card' = (j : ℕ) → zeros (sectorAt card j) ≡ false → sectorAt card' j ≡ sectorAt card j
 
-pub stays-trans : (a b c : List ℕ) → Stays a b → Stays b c → Stays a c
-stays-trans a b c p q j z = q j (ap zeros (p j z) ∙ z) ∙ p j z
-
 -- entries put at the blanks of bucket b
 module _ (h : Head) (card : List ℕ) (size : sizeOf h ≡ length card) (b : ℕ) (lo : 1 ≤ b) (hi : b ≤ h .n) (new : List Entry) where
   here-each : (P : ℕ → Type 0) → ((j : ℕ) → base h b ≤ j → j < base h b + h .m → zeros (sectorAt card j) ≡ true → P j) → Each P (blanksOf h card b)

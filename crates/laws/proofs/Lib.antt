@@ -8,7 +8,9 @@ pub mod Lists
 pub mod Copies
 pub mod Halves
 pub mod Entries
+pub mod Left
 pub mod Buckets
+pub mod Logs
 pub mod Blocks
 pub mod Blanks
 pub mod Bytes

@@ -1,13 +1,10 @@
 -- Two cards formatted alike whose accepted entries agree up to t answer alike as of t.
 use mathlib.Core.Option.{Option, some}
-use mathlib.Core.Bool.{false}
 use Prim.Native.Nat.{ℕ, _≤_, _<_}
 use mathlib.Core.Path.{refl, sym, ap, ap₂, subst, _∙_, _≡_}
 use mathlib.Core.Logic.{⊎-elim}
 use mathlib.Core.List.{List, [], _∷_}
 use lib.ListN.{length}
-use lib.Dec.{leb}
-use borrow.Author.Tests.{le-leb, lt-leb}
 use native.Mathlib.Omega.{arith}
 use Rattle.rules.specs.declared.Entry.{Entry}
 use Rattle.rules.specs.declared.Head.{Head}
@@ -16,12 +13,11 @@ use Rattle.rules.specs.Walk.{Visit, standsOn, dataOf, walk, left}
 use Rattle.rules.specs.Next.{standingAbove}
 use Rattle.rules.specs.Look.{lookOn, lookIn, look}
 use Rattle.rules.specs.Write.{accept}
-use Rattle.rules.specs.Plain.{only}
 use Rattle.rules.specs.Format.{format, formatted, meant}
-use Rattle.laws.proofs.Halves.{only-none}
 use Rattle.laws.proofs.Lists.{All, all-map}
 use Rattle.laws.proofs.Tools.{le-or-lt}
 use Rattle.laws.proofs.Zeros.{zero-eq}
+use Rattle.laws.proofs.Left.{left-past, left-keep}
 use Rattle.tree.proofs.AsOf.{Alike}
 use Rattle.tree.proofs.Begin.{format-inv, nothing}
 use Rattle.tree.proofs.Keeps.{Keeps, keeps-passed, keeps-wrote, keeps-step, more}
@@ -81,14 +77,6 @@ since-rises h c g begin s ke (e ∷ es) d q =
     let up = keeps-passed h c g begin s ke e (q .1) (q .0) (q .2) .1 in
     let rest = since-rises h (q .0) (more g e) begin (e .stamp) (keeps-step h c g begin s ke e (q .1) (q .0) (q .2)) es d (q .3) in
     (up, all-map (λ d. e .stamp < d .stamp) (λ d. s < d .stamp) (λ d l. omega arith) es rest)
-
-left-past : (t : ℕ) (es : List Entry) → All (λ e. t < e .stamp) es → left t es ≡ []
-unfolding left
-left-past t es a = only-none (λ e. leb (e .stamp) t) es (all-map (λ e. t < e .stamp) (λ e. leb (e .stamp) t ≡ false) (λ e l. lt-leb (e .stamp) t l) es a)
-
-left-keep : (t : ℕ) (e : Entry) (es : List Entry) → e .stamp ≤ t → left t (e ∷ es) ≡ e ∷ left t es
-unfolding left only
-left-keep t e es le = rw (le-leb (e .stamp) t le)
 
 -- so the card of the entries up to t walks as of t as the last card does
 replay : (h : Head) (c : List ℕ) (g : ℕ → ℕ → Option Entry) (begin s : ℕ) → Keeps h c g begin s → (t : ℕ) → begin ≤ t

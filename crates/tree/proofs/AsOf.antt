@@ -1,29 +1,24 @@
 -- What is added with a later stamp is not seen as of an earlier one.
 use mathlib.Core.Path.{_≡_, ap, refl, subst, sym}
-use mathlib.Core.Bool.{true}
 use mathlib.Core.Option.{Option, none, some}
-use Prim.Native.Nat.{_<_, suc, zero, ℕ}
+use Prim.Native.Nat.{_<_, suc, zero, ℕ, _≤_}
 use native.Mathlib.Omega.{arith}
 use mathlib.Core.List.{List, [], _++_, _∷_}
 use lib.Dec.{leb}
-use borrow.Author.Tests.{leb-true, lt-leb}
 use Rattle.rules.specs.declared.Entry.{Entry}
-use Rattle.rules.specs.Plain.{every, keepIf, only}
+use Rattle.rules.specs.Plain.{keepIf, only}
 use Rattle.rules.specs.Walk.{Turn, Visit, arrived, broken, down, go, goIn, left, met, path, turn}
-use Rattle.laws.proofs.Tools.{and-true, none-some}
+use Rattle.laws.proofs.Tools.{none-some}
 use Rattle.laws.proofs.Paths.{met-inv}
+use Rattle.laws.proofs.Left.{left-past}
+use Rattle.laws.proofs.Lists.{All, all-map}
 
 -- every entry is stamped s or later
 abbrev pub Late : ℕ → List Entry → Type 0
-Late s es = every (λ e. leb s (e .stamp)) es ≡ true
+Late s es = All (λ e. s ≤ e .stamp) es
 
 left-none : (t s : ℕ) (es : List Entry) → t < s → Late s es → left t es ≡ []
-unfolding left only every
-left-none t s [] lt late = refl
-left-none t s (e ∷ es) lt late =
-    let a = and-true (leb s (e .stamp)) (every (λ d. leb s (d .stamp)) es) late in
-    let later = leb-true s (e .stamp) (a .0) in
-    rw (lt-leb (e .stamp) t (omega arith)) (left-none t s es lt (a .1))
+left-none t s es lt late = left-past t es (all-map (λ e. s ≤ e .stamp) (λ e. t < e .stamp) (λ e l. omega arith) es late)
 
 pub left-late : (t s : ℕ) (es new : List Entry) → t < s → Late s new → left t (es ++ new) ≡ left t es
 unfolding left only

@@ -17,7 +17,7 @@ use Rattle.rules.specs.Rewrite.{Rise}
 use Rattle.rules.specs.Sector.{isData, isIndex}
 use Rattle.rules.specs.Walk.{Visit, copyOf, downTo, follow, go, goIn, met, path, standing}
 use Rattle.rules.specs.Write.{climb, placeIf}
-use Rattle.laws.proofs.Tools.{eq-or-ne, le-or-lt, true-and}
+use Rattle.laws.proofs.Tools.{eq-or-ne, le-or-lt}
 use Rattle.laws.proofs.Lists.{All, all-append, all-map, copy-snoc-other, copy-snoc-same, follow-all, follow-gap, follow-le, upper, upper-gt, upper-le}
 use Rattle.laws.proofs.Entries.{Good, Fine}
 use Rattle.laws.proofs.Fresh.{placeIf-fresh, climb-mono}
@@ -26,7 +26,7 @@ use Rattle.tree.proofs.Tree.{Early, Kids, Reading, Shape, Span, Tree, t
 use Rattle.tree.proofs.Pairs.{away, away-tree, kids-one, kids-two, same-upper}
 use Rattle.tree.proofs.Content.{content-fresh}
 use Rattle.tree.proofs.Outcome.{Closed, One, Outcome, Two}
-use Rattle.tree.proofs.Level.{Before, late-nil, place-level}
+use Rattle.tree.proofs.Level.{Before, place-level}
 use Rattle.tree.proofs.AsOf.{Late}
 use Rattle.tree.proofs.Ready.{Ready}
 
@@ -98,8 +98,7 @@ module _ (h : Head) (lim : Lim h) (card : List ℕ) (g : ℕ → Option Entry) (
         (record {
           lim = lim;
           same1 = λ c cs q. q;
-          front1 = λ j lt. refl;
-          late = true-and (le-leb (e .stamp) (e .stamp) (omega arith)) refl;
+          late = (omega arith, tt);
           added = inl (e, copy-snoc-same (e .key) (tr .0) e refl, refl, isd .1);
           ready1 = ready;
           fresh1 = f1;
@@ -147,7 +146,6 @@ module _ (h : Head) (lim : Lim h) (card : List ℕ) (g : ℕ → Option Entry) (
         let nb : b ≡ c .spot → ⊥ = λ z. tree-not (bucket h card) g g b (suc k) lo hi tr lt (c .height) (c .spot) (c .low) (c .high) (w .3) (inr (inr (omega arith))) (c .spot-tree) (sym z) in
         record {
           ready = c .ready;
-          front = c .front;
           grows = c .grows;
           mark = c .mark;
           spot = c .spot;
@@ -190,10 +188,6 @@ module _ (h : Head) (lim : Lim h) (card : List ℕ) (g : ℕ → Option Entry) (
         go [] s = absurd (s .0)
         go (x ∷ xs) s = (s .0, all-append (Span true lo hi) (x ∷ xs) ps (s .1) a)
 
-    late-pair : (p : Entry) (ps : List Entry) → p .stamp ≡ e .stamp → Late (e .stamp) ps → Late (e .stamp) (p ∷ ps)
-    unfolding every
-    late-pair p ps q l = true-and (le-leb (e .stamp) (p .stamp) (omega arith)) l
-
     -- below, one new bucket stands for the child, or two
     one-up : (r : Rise) (p : Entry) → 1 ≤ r .fresh → r .hand ≡ p ∷ [] → One h card (r .card) (upd g e) k (d .key) u (e .stamp) (r .fresh) p
         → Before h card g (upd g e) (suc k) b lo hi (e .stamp) r es
@@ -209,8 +203,7 @@ module _ (h : Head) (lim : Lim h) (card : List ℕ) (g : ℕ → Option Entry) (
         record {
           lim = lim;
           same1 = o .opened .same;
-          front1 = o .opened .front;
-          late = subst (Late (e .stamp)) (sym hand) (late-pair p [] (pr .3) (late-nil (e .stamp)));
+          late = subst (Late (e .stamp)) (sym hand) (let z = pr .3 in (omega arith, tt));
           added = inr (o .opened .mark);
           ready1 = o .opened .ready;
           fresh1 = lf;
@@ -241,8 +234,7 @@ module _ (h : Head) (lim : Lim h) (card : List ℕ) (g : ℕ → Option Entry) (
         record {
           lim = lim;
           same1 = o .opened .same;
-          front1 = o .opened .front;
-          late = subst (Late (e .stamp)) (sym hand) (late-pair p (q ∷ []) (pr .3) (late-pair q [] (qr .3) (late-nil (e .stamp))));
+          late = subst (Late (e .stamp)) (sym hand) (let y = pr .3 in let z = qr .3 in (omega arith, (omega arith, tt)));
           added = inr (o .opened .mark);
           ready1 = o .opened .ready;
           fresh1 = lf;

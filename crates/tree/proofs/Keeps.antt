@@ -16,10 +16,9 @@ use Rattle.rules.specs.Layout.{sizeOf}
 use Rattle.rules.specs.Next.{next, nextIn}
 use Rattle.rules.specs.Plain.{if}
 use Rattle.rules.specs.Sector.{isData}
-use Rattle.rules.specs.Walk.{Visit, left, pathFrom, pathIn, standing, walk}
+use Rattle.rules.specs.Walk.{Visit, pathFrom, pathIn, standing, walk}
 use Rattle.rules.specs.Write.{accept, plan, planOn, stampOn, latest}
 use Rattle.laws.proofs.Buckets.{bucket-within}
-use Rattle.laws.proofs.Halves.{only-every}
 use Rattle.laws.proofs.Heads.{head-facts}
 use Rattle.laws.proofs.Lists.{All, all-append, all-map}
 use Rattle.laws.proofs.Plans.{plan-inv}
@@ -28,6 +27,7 @@ use Rattle.laws.proofs.Entries.{Asks, asks-kind, asks-stamp, asks-small, asks-f
 use Rattle.laws.proofs.Writes.{top-after}
 use Rattle.laws.proofs.Fresh.{freshAfter}
 use Rattle.laws.proofs.Stamps.{bucket-stamps}
+use Rattle.laws.proofs.Left.{left-upto}
 use Rattle.tree.proofs.Walks.{walk-late}
 use Rattle.tree.proofs.Climb.{upd}
 use Rattle.tree.proofs.Hops.{NextIs, next-loop}
@@ -43,19 +43,18 @@ more g e t x = if (leb (e .stamp) t) (upd (g t) e x) (g t x)
 
 -- the card, begun at a stamp and last written at s, answers from its beginning on as g has it
 pub record Keeps (h : Head) (card : List ℕ) (g : ℕ → ℕ → Option Entry) (begin s : ℕ) : Type 0 where
+  -- what its tree holds stands as of s and of every later stamp
   pub height : ℕ
   pub now : ℕ → Option Entry
   pub state : State h card now height
   pub calm : (t x : ℕ) → s ≤ t → now x ≡ g t x
+  -- s is the largest stamp, in the buckets and in the log
   pub top : stampOn h card ≡ s
   pub logs-upto : All (λ e. e .stamp ≤ s) (state .logs)
   pub since : begin ≤ s
   pub small : s < 4294967296
+  -- every walk arrives at a data bucket that tells the truth for its range of keys
   pub answers : (t x : ℕ) → begin ≤ t → x < 4294967296 → (p : List Visit) × (walk h card t x ≡ some p) × Ends (g t) t x 0 4294967296 p
-
-pub left-upto : (t : ℕ) (es : List Entry) → All (λ e. e .stamp ≤ t) es → left t es ≡ es
-unfolding left
-left-upto t es a = only-every (λ e. leb (e .stamp) t) es (all-map (λ e. e .stamp ≤ t) (λ e. leb (e .stamp) t ≡ true) (λ e l. le-leb (e .stamp) t l) es a)
 
 -- no entry of the buckets is stamped after t
 early-upto : (h : Head) (card : List ℕ) (t : ℕ) → sizeOf h ≡ length card → stampOn h card ≤ t → Early t (bucket h card)

@@ -12,9 +12,9 @@ use Rattle.rules.specs.declared.Entry.{Entry}
 use Rattle.rules.specs.declared.Head.{Head}
 use Rattle.rules.specs.Bucket.{blanksOf, bucket}
 use Rattle.rules.specs.Layout.{base}
-use Rattle.rules.specs.Plain.{every, if}
+use Rattle.rules.specs.Plain.{if}
 use Rattle.rules.specs.Rewrite.{Rise, into, kept, keyOf, limitOf, oneBucket, pair, renew, twoBuckets}
-use Rattle.rules.specs.Sector.{isData, isIndex, sectorAt}
+use Rattle.rules.specs.Sector.{isData, isIndex}
 use Rattle.rules.specs.Walk.{Visit, copyOf}
 use Rattle.rules.specs.Write.{place}
 use Rattle.laws.proofs.Tools.{eq-or-ne, le-or-lt}
@@ -40,15 +40,10 @@ zip-span2 : (i : Bool) (lo hi m : ℕ) (es : List Entry) → All (Span i lo hi) 
 zip-span2 i lo hi m [] a b = tt
 zip-span2 i lo hi m (e ∷ es) a b = ((a .0 .0, b .0, a .0 .2, a .0 .3), zip-span2 i lo hi m es (a .1) (b .1))
 
-pub late-nil : (s : ℕ) → Late s []
-unfolding every
-late-nil s = refl
-
 -- what is known of a level before the hand is placed
 pub record Before (h : Head) (card : List ℕ) (g g' : ℕ → Option Entry) (k b lo hi s : ℕ) (r : Rise) (es : List Entry) : Type 0 where
   pub lim : Lim h
   pub same1 : (c : ℕ) (cs : List Entry) → bucket h card c ≡ some cs → bucket h (r .card) c ≡ some cs
-  pub front1 : (j : ℕ) → j < 1 + h .n → sectorAt (r .card) j ≡ sectorAt card j
   pub late : Late s (r .hand)
   pub added : ((p : Entry) × (copyOf (p .key) (es ++ r .hand) ≡ some p) × (p .stamp ≡ s) × (isData p ≡ true)) ⊎ Mark s (bucket h (r .card))
   pub ready1 : Ready h (r .card) (r .fresh)
@@ -73,11 +68,10 @@ module _ (h : Head) (card : List ℕ) (g g' : ℕ → Option Entry) (k b lo hi s
       let card2 = into h b (r .hand) card1 in
       record {
         ready = j .ready;
-        front = λ i lt. j .front i lt ∙ bf .front1 i lt;
         grows = λ c cs q. ⊎-elim
             (λ cb. let e : cs ≡ es = cc (q, ap (bucket h card) cb, bf .here) in
             (r .hand, ap (bucket h card2) cb ∙ j .here ∙ ap (λ z. some (z ++ r .hand)) (sym e), bf .late))
-            (λ ne. ([], j .others c ne ∙ bf .same1 c cs q ∙ ap some (sym (append-nil cs)), late-nil s))
+            (λ ne. ([], j .others c ne ∙ bf .same1 c cs q ∙ ap some (sym (append-nil cs)), tt))
             (eq-or-ne c b);
         mark = ⊎-elim
             (λ (a : (p : Entry) × (copyOf (p .key) (es ++ r .hand) ≡ some p) × (p .stamp ≡ s) × (isData p ≡ true)).
@@ -137,7 +131,6 @@ module _ (h : Head) (card : List ℕ) (g g' : ℕ → Option Entry) (k b lo hi s
               (λ (a : (p : Entry) × (copyOf (p .key) (es ++ r .hand) ≡ some p) × (p .stamp ≡ s) × (isData p ≡ true)). (b1, ks, nb .here, ks-marked a))
               (λ (m : Mark s (bucket h card1)). (m .0, m .1, nb .same (m .0) (m .1) (m .2), m .3))
               (bf .added);
-          front = λ i lt. nb .front i lt ∙ bf .front1 i lt;
           same = λ c cs q. nb .same c cs (bf .same1 c cs q);
         };
         pair1 = (key, refl, pair-fine (h .n) s b1 lo ks key (omega arith) (rg .2) (omega arith) fn (bf .lim .n4096), refl);
@@ -181,7 +174,6 @@ module _ (h : Head) (card : List ℕ) (g g' : ℕ → Option Entry) (k b lo hi s
               (unmarked? s as1))
               (λ (m : Mark s (bucket h card1)). (m .0, m .1, fb2 .same (m .0) (m .1) (fb1 .same (m .0) (m .1) (m .2)), m .3))
               (bf .added);
-          front = λ i lt. fb2 .front i lt ∙ fb1 .front i lt ∙ bf .front1 i lt;
           same = λ c cs q. fb2 .same c cs (fb1 .same c cs (bf .same1 c cs q));
         };
         pair1 = (xk, refl, pair-fine (h .n) s b1 lo as1 xk (omega arith) (rg .2) (omega arith) (omega arith) (bf .lim .n4096), refl);

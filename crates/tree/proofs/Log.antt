@@ -9,38 +9,18 @@ use mathlib.Core.List.{List, [], _++_, _∷_}
 use lib.ListN.{length}
 use Rattle.rules.specs.declared.Entry.{Entry}
 use Rattle.rules.specs.declared.Head.{Head}
-use Rattle.rules.specs.Bucket.{blanks, bucket, log, logBlanks, run, soundBucket, soundLog}
+use Rattle.rules.specs.Bucket.{blanks, bucket, log, logBlanks, soundBucket}
 use Rattle.rules.specs.Layout.{base, sizeOf}
-use Rattle.rules.specs.Plain.{andThen, every}
+use Rattle.rules.specs.Plain.{andThen}
 use Rattle.rules.specs.Rewrite.{fill}
 use Rattle.rules.specs.Sector.{isRoot, sectorAt}
-use Rattle.laws.proofs.Tools.{guard-true, none-some, then-inv}
 use Rattle.laws.proofs.Run.{run-agree}
-use Rattle.laws.proofs.Buckets.{every-snoc, raw}
+use Rattle.laws.proofs.Buckets.{raw}
 use Rattle.laws.proofs.Blocks.{Each, Lies, blanks-each, fill-other, fill-run, length-fill}
 use Rattle.laws.proofs.Entries.{Good, Fine}
 use Rattle.laws.proofs.Bytes.{bytes-fill}
+use Rattle.laws.proofs.Logs.{log-raw, soundLog-snoc}
 use Rattle.tree.proofs.Ready.{Ready}
-
--- what is read of the log, by its sectors
-soundLog-inv : (es gs : List Entry) → soundLog es ≡ some gs → (es ≡ gs) × (every isRoot gs ≡ true)
-unfolding soundLog
-soundLog-inv [] gs q = absurd (none-some q)
-soundLog-inv (e ∷ es) gs q =
-    let t = guard-true (every isRoot (e ∷ es)) (e ∷ es) gs q in
-    (t .1, ap (every isRoot) (sym (t .1)) ∙ t .0)
-
-pub log-raw : (h : Head) (card : List ℕ) (lg : List Entry) → log h card ≡ some lg → (run (h .n) card 1 (h .n) ≡ some lg) × (every isRoot lg ≡ true)
-unfolding log
-log-raw h card lg q =
-    let inv = then-inv (run (h .n) card 1 (h .n)) soundLog lg q in
-    let s = soundLog-inv (inv .0) lg (inv .2) in
-    (inv .1 ∙ ap some (s .0), s .1)
-
-soundLog-snoc : (lg : List Entry) (r : Entry) → every isRoot lg ≡ true → isRoot r ≡ true → soundLog (lg ++ (r ∷ [])) ≡ some (lg ++ (r ∷ []))
-unfolding soundLog
-soundLog-snoc [] r a b = rw (every-snoc isRoot [] r a b)
-soundLog-snoc (x ∷ lg) r a b = rw (every-snoc isRoot (x ∷ lg) r a b)
 
 pub record Logged (h : Head) (card card' : List ℕ) (f : ℕ) (lg : List Entry) : Type 0 where
   pub ready : Ready h card' f

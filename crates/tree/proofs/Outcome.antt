@@ -3,7 +3,7 @@ use mathlib.Core.Path.{_∙_, _≡_, refl, sym}
 use mathlib.Core.Logic.{_⊎_, inl, inr, ⊎-elim}
 use mathlib.Core.Bool.{Bool, false, not, true}
 use mathlib.Core.Option.{Option, some}
-use Prim.Native.Nat.{_+_, _<_, _≤_, ℕ}
+use Prim.Native.Nat.{_<_, _≤_, ℕ}
 use native.Mathlib.Omega.{arith}
 use mathlib.Core.List.{List, [], _∷_}
 use lib.Dec.{eqb}
@@ -13,7 +13,7 @@ use Rattle.rules.specs.declared.Head.{Head}
 use Rattle.rules.specs.Bucket.{bucket}
 use Rattle.rules.specs.Plain.{_or_, only}
 use Rattle.rules.specs.Rewrite.{Rise, insert, kept, keyOf, lastCopies}
-use Rattle.rules.specs.Sector.{isData, isIndex, sectorAt}
+use Rattle.rules.specs.Sector.{isData, isIndex}
 use Rattle.rules.specs.Walk.{copyOf}
 use Rattle.laws.proofs.Tools.{bool-cases, eq-or-ne, le-or-lt, true-false}
 use Rattle.laws.proofs.Lists.{All, all-map, only-back, copy-all}
@@ -94,7 +94,6 @@ kept-marked hk s es p q ps pd u =
 -- what a level leaves: the bucket stands, with one bucket changed; or one or two new ones stand for it
 pub record Closed (h : Head) (card card' : List ℕ) (g g' : ℕ → Option Entry) (k b lo hi s f : ℕ) : Type 0 where
   pub ready : Ready h card' f
-  pub front : (j : ℕ) → j < 1 + h .n → sectorAt card' j ≡ sectorAt card j
   pub grows : Grows s (bucket h card) (bucket h card')
   pub mark : Mark s (bucket h card')
   pub spot : ℕ
@@ -109,7 +108,6 @@ pub record Closed (h : Head) (card card' : List ℕ) (g g' : ℕ → Option Entr
 pub record Open (h : Head) (card card' : List ℕ) (s f : ℕ) : Type 0 where
   pub ready : Ready h card' f
   pub mark : Mark s (bucket h card')
-  pub front : (j : ℕ) → j < 1 + h .n → sectorAt card' j ≡ sectorAt card j
   pub same : (c : ℕ) (cs : List Entry) → bucket h card c ≡ some cs → bucket h card' c ≡ some cs
 
 abbrev pub IsPair : ℕ → ℕ → ℕ → Entry → Type 0

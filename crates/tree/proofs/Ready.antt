@@ -58,7 +58,6 @@ fresh-bucket h card f b ks rdy fb lo hi room good sound =
 -- entries are added to a bucket
 pub record Joined (h : Head) (card card' : List ℕ) (f b : ℕ) (es : List Entry) : Type 0 where
   pub ready : Ready h card' f
-  pub front : (j : ℕ) → j < 1 + h .n → sectorAt card' j ≡ sectorAt card j
   pub here : bucket h card' b ≡ some es
   pub others : (c : ℕ) → (c ≡ b → ⊥) → bucket h card' c ≡ bucket h card c
 
@@ -79,7 +78,6 @@ join-bucket h card f b es new rdy lf q fits good sound =
             none-some (ap soundBucket (sym e) ∙ r .2)) ∙ rdy .blank c p z;
         whole = block-whole h card (rdy .size) b (r .0) hi new es good fits (r .1) (rdy .whole);
       };
-      front = block-front h card (rdy .size) b (r .0) hi new;
       others = block-others h card (rdy .size) b (r .0) hi new;
       here = raw-bucket h (into h b new card) b (es ++ new) (r .0) (block-raw h card (rdy .size) b (r .0) hi new es good fits (r .1)) sound;
     }

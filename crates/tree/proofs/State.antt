@@ -1,30 +1,25 @@
 -- A card in order: its head, its log, and a tree that holds what stands.
-use mathlib.Core.Path.{_≡_, ap}
+use mathlib.Core.Path.{_≡_}
 use mathlib.Core.Logic.{⊎-elim}
-use mathlib.Core.Bool.{true}
 use mathlib.Core.Option.{Option, some}
 use Prim.Native.Nat.{_+_, _<_, _≤_, min, ℕ}
 use native.Mathlib.Omega.{arith}
 use mathlib.Core.List.{List, [], _∷_}
 use lib.ListN.{length}
-use lib.Dec.{leb}
 use borrow.Author.Tests.{le-leb, le-ltb, lt-leb, lt-ltb}
 use Rattle.rules.specs.declared.Entry.{Entry}
 use Rattle.rules.specs.declared.Head.{Head}
-use Rattle.rules.specs.Bucket.{bucket, log, logBlanks, soundLog}
+use Rattle.rules.specs.Bucket.{bucket, log}
 use Rattle.rules.specs.Layout.{base, headOf}
-use Rattle.rules.specs.Plain.{andThen, larger, largest, lastOf, only}
-use Rattle.rules.specs.Sector.{sectorAt}
-use Rattle.rules.specs.Walk.{follow, left, path, pathFrom, pathIn, walk}
+use Rattle.rules.specs.Plain.{larger, largest, lastOf, only}
+use Rattle.rules.specs.Walk.{follow, path, pathFrom, pathIn, walk}
 use Rattle.laws.proofs.Tools.{le-or-lt}
-use Rattle.laws.proofs.Lists.{all-map, upper}
-use Rattle.laws.proofs.Run.{blanks-agree, run-agree}
-use Rattle.laws.proofs.Entries.{Good, Fine}
+use Rattle.laws.proofs.Lists.{upper}
 use Rattle.laws.proofs.Bytes.{Bytes, run-good}
-use Rattle.laws.proofs.Halves.{only-every}
 use Rattle.laws.proofs.Buckets.{bucket-raw, raw}
+use Rattle.laws.proofs.Logs.{log-raw}
+use Rattle.laws.proofs.Left.{left-latest}
 use Rattle.tree.proofs.Tree.{Early, Kids, Reading, Tree}
-use Rattle.tree.proofs.Log.{log-raw}
 
 pub record State (h : Head) (card : List ℕ) (g : ℕ → Option Entry) (k : ℕ) : Type 0 where
   pub bytes : Bytes card
@@ -38,24 +33,8 @@ pub record State (h : Head) (card : List ℕ) (g : ℕ → Option Entry) (k : �
   -- some bucket's number is above the height, and above the number of log entries: so neither the walk's N nor the log runs out
   pub tall : (b : ℕ) × (es : List Entry) × (bucket h card b ≡ some es) × (k + 1 ≤ b) × (length logs < b)
 
--- all stamps are below 4294967296
-good-left : (n : ℕ) (es : List Entry) → Good n es → left 4294967295 es ≡ es
-unfolding left
-good-left n es g =
-    only-every (λ e. leb (e .stamp) 4294967295) es
-    (all-map (Fine n) (λ e. leb (e .stamp) 4294967295 ≡ true) (λ e f. le-leb (e .stamp) 4294967295 (let z = f .0 .stamp in omega arith)) es g)
-
 pub early-max : (h : Head) (card : List ℕ) → Bytes card → Early 4294967295 (bucket h card)
-early-max h card b c es q = good-left (h .n) es (run-good (h .n) card b (base h c) (h .m) es (bucket-raw h card c es q .1))
-
-pub log-same : (h : Head) (card card' : List ℕ) → ((j : ℕ) → j < 1 + h .n → sectorAt card' j ≡ sectorAt card j) → log h card' ≡ log h card
-unfolding log
-log-same h card card' f = ap (λ z. andThen z soundLog) (run-agree (h .n) card' card 1 (h .n) (λ j p q. f j (omega arith)))
-
-pub log-blanks-same : (h : Head) (card card' : List ℕ) → ((j : ℕ) → j < 1 + h .n → sectorAt card' j ≡ sectorAt card j)
-    → logBlanks h card' ≡ logBlanks h card
-unfolding logBlanks
-log-blanks-same h card card' f = blanks-agree card' card 1 (h .n) (λ j p q. f j (omega arith))
+early-max h card b c es q = left-latest (h .n) es (run-good (h .n) card b (base h c) (h .m) es (bucket-raw h card c es q .1))
 
 -- two pairs in a root of their own
 pub kids-pair : (rd : Reading) (g : ℕ → Option Entry) (k hi : ℕ) (p q : Entry) → p .key ≡ 0 → p .key < q .key → q .key < hi
@@ -81,4 +60,4 @@ pub state-walk : (h : Head) (card : List ℕ) (g : ℕ → Option Entry) (k : �
     → walk h card 4294967295 x ≡ path (bucket h card) 4294967295 x (h .n) (st .last .value) 0
 unfolding walk pathIn pathFrom
 state-walk h card g k st x =
-    rw (st .log-is, good-left (h .n) (st .logs) (run-good (h .n) card (st .bytes) 1 (h .n) (st .logs) (log-raw h card (st .logs) (st .log-is) .0)), st .last-is)
+    rw (st .log-is, left-latest (h .n) (st .logs) (run-good (h .n) card (st .bytes) 1 (h .n) (st .logs) (log-raw h card (st .logs) (st .log-is) .0)), st .last-is)
