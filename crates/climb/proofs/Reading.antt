@@ -22,7 +22,7 @@ use Rattle.rules.specs.Bucket.{run, bucket, log, blanksOf, blanks, logBlanks, s
 use Rattle.laws.proofs.Tools.{then-inv, none-some, bool-cases, false-true}
 use Rattle.laws.proofs.Codec.{blank-zeros}
 use Rattle.laws.proofs.Run.{onto-inv}
-use Rattle.laws.proofs.Used.{zeros-get}
+use Rattle.laws.proofs.Zeros.{zeros-get}
 use Rattle.laws.proofs.Bytes.{held-inv}
 use Rattle.laws.proofs.Blanks.{upFrom, blanks-from}
 use Rattle.laws.proofs.Buckets.{raw, bucket-raw, run-length, bucket-within}
