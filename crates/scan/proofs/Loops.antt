@@ -1,13 +1,13 @@
 -- The turns of the loops, as the code has the numbers: what each way out of a turn says of the whole scan.
-use mathlib.Core.Path.{_≡_, refl, ap, ap₂, sym, _∙_, subst}
+use mathlib.Core.Path.{_≡_, refl, ap, sym, _∙_, subst}
 use mathlib.Core.Bool.{Bool, true, false}
 use mathlib.Core.Logic.{⊎-elim}
-use Prim.Native.Nat.{ℕ, zero, suc, _+_, _*_, _-_, _≤_, _<_}
+use Prim.Native.Nat.{ℕ, suc, _+_, _*_, _-_, _≤_, _<_}
 use native.Mathlib.Omega.{arith}
 use native.Mathlib.Nat.{add-sub-cancel-left}
 use native.Mathlib.Numerals.{add-one}
 use mathlib.Core.List.{List, [], _∷_}
-use lib.ListN.{length, take, drop}
+use lib.ListN.{take, drop}
 use lib.Dec.{leb, eqb}
 use borrow.Author.Tests.{eq-eqb, ne-eqb}
 use types.Run.{OneOf}
@@ -25,9 +25,12 @@ use Rattle.scan.specs.declared.Found.the-variants.{Damage, Nothing, Hit}
 use Rattle.scan.specs.declared.Way.{Way}
 use Rattle.scan.specs.declared.Way.the-variants.{Lost, Down, Absent, Copy}
 use Rattle.scan.specs.declared.Trip.{Trip}
-use Rattle.scan.specs.Scan.{sectors, allBlank, scanIn, pick, wayOf, search}
+use Rattle.scan.specs.Scan.{sectors, scanIn, pick, wayOf, search}
 use Rattle.scan.specs.Look.{searchAt, trip, onward, walkScan}
-use Rattle.scan.specs.Next.{weigh, standIn, pickNext, later}
+use Rattle.scan.specs.declared.Leg.{Leg}
+use Rattle.scan.specs.declared.Leg.the-variants.{Gone}
+use Rattle.scan.specs.Next.{pickUp, weigh, standIn, pickNext, later, sectorsOf, legOf, stride, legScan}
+use Rattle.scan.proofs.Data.{Ends, data-weigh}
 
 -- the sectors from the i-th on, up to the m-th: the i-th, and those from the next on
 pub sectors-step : (n m i : ℕ) (b : List ℕ) → i < m
@@ -170,3 +173,35 @@ module _ (h : Head) (card : List ℕ) (x t r b k : ℕ) (s : Way) (w : Trip) (lt
 pub walk-out : (h : Head) (card : List ℕ) (x t r b k : ℕ) (w : Trip) → r ≡ h .n → walkScan h card x t (h .n - r) r b k ≡ w → trip 0 Damage ≡ w
 unfolding walkScan
 walk-out h card x t r b k w e inv = let z : h .n - r ≡ 0 = omega arith in rw z at inv
+
+-- one bucket of a walk of next
+module _ (h : Head) (card : List ℕ) (k x t r b j : ℕ) (up : Found) (s : Way) (w : Leg) (lt : r < h .n) (said : s ≡ searchAt h card x t b j)
+    (inv : legScan h card k x t (h .n - r) up b j ≡ w) where
+  leg-turn : let more = weigh (pickUp x t) (sectorsOf h card b) up in
+      stride s (legOf (standIn k t (sectorsOf h card b) Nothing) more) (legScan h card k x t (h .n - (r + 1)) more) ≡ w
+  unfolding legScan
+  leg-turn = let more : h .n - r ≡ suc (h .n - (r + 1)) = omega arith in rw said (rw more at inv)
+
+  pub leg-down : (e : Entry) → s ≡ Down e → legScan h card k x t (h .n - (r + 1)) (weigh (pickUp x t) (sectorsOf h card b) up) (e .value) (e .key) ≡ w
+  unfolding stride
+  leg-down e q = rw q at leg-turn
+
+  pub leg-lost : s ≡ Lost → Gone ≡ w
+  unfolding stride
+  leg-lost q = rw q at leg-turn
+
+  leg-data : Ends s → legOf (standIn k t (sectorsOf h card b) Nothing) (weigh (pickUp x t) (sectorsOf h card b) up) ≡ w
+      → legOf (standIn k t (sectorsOf h card b) Nothing) up ≡ w
+  leg-data e q = rw (data-weigh h card x t b j up (subst Ends said e)) at q
+
+  pub leg-absent : s ≡ Absent → legOf (standIn k t (sectorsOf h card b) Nothing) up ≡ w
+  unfolding stride
+  leg-absent q = leg-data (subst Ends (sym q) tt) (rw q at leg-turn)
+
+  pub leg-copy : (e : Entry) → s ≡ Copy e → legOf (standIn k t (sectorsOf h card b) Nothing) up ≡ w
+  unfolding stride
+  leg-copy e q = leg-data (subst Ends (sym q) tt) (rw q at leg-turn)
+
+pub leg-out : (h : Head) (card : List ℕ) (k x t r b j : ℕ) (up : Found) (w : Leg) → r ≡ h .n → legScan h card k x t (h .n - r) up b j ≡ w → Gone ≡ w
+unfolding legScan
+leg-out h card k x t r b j up w e inv = let z : h .n - r ≡ 0 = omega arith in rw z at inv

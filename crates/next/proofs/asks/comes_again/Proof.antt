@@ -1,0 +1,102 @@
+use Prim.Native.Nat.{_≤_, _-_}
+use mathlib.Core.Path.{_≡_, refl}
+use native.Mathlib.Omega.{arith}
+use lib.ListN.{length-take, length-drop}
+use denote.Ref.{now}
+use Rattle.scan.specs.Scan.{sectors}
+use Rattle.scan.specs.Next.{later}
+use Rattle.scan.proofs.Loops.{sectors-end, later-turn, later-ends}
+use Rattle.next.proofs.Tests.{copy-or}
+use borrow.Author.Needs.{needs}
+use Rattle.next.proofs.asks.comes_again.Statement.{statement}
+use Rattle.next.proofs.asks.comes_again.Tie as tie
+
+abbrev Inv-loop : tie.InvT-loop
+Inv-loop part n m from bib t i₀ i = (i ≤ m) × (later bib t (sectors n part i (m - i)) ≡ later bib t (sectors n part from (m - from)))
+
+abbrev μ-loop : tie.MeasureT-loop
+μ-loop part n m from bib t i₀ i = m - i
+
+loop-holds : tie.Need-loop-holds Inv-loop μ-loop
+loop-holds c = (search needs, refl)
+
+mul-a : tie.Need-mul-a Inv-loop μ-loop
+mul-a c = search needs
+
+add-e : tie.Need-add-e Inv-loop μ-loop
+add-e c = search needs
+
+sub-decode : tie.Need-sub-decode Inv-loop μ-loop
+sub-decode c = search needs
+
+part-decode-start : tie.Need-part-decode-start Inv-loop μ-loop
+part-decode-start c = search needs
+
+part-decode-end : tie.Need-part-decode-end Inv-loop μ-loop
+part-decode-end c = search needs
+
+decode-requires : tie.Need-decode-requires Inv-loop μ-loop
+decode-requires c κs = simp (length-take, length-drop) (omega arith)
+
+enum-known-s : tie.Need-enum-known-s Inv-loop μ-loop
+enum-known-s c = search needs
+
+returns : tie.Need-returns Inv-loop μ-loop
+returns c =
+    let read = c .before in
+    let turn = read .before .before in
+    let a = turn .before .before .before .args in
+    later-ends (a .n) (a .m) (turn .before .loop .i) (now (a .part)) _ (turn .loop-test .taken) (read .decode .ensures) _ _ _ (turn .before .loop .inv .1) (c .match .keys2)
+
+is-copy-requires : tie.Need-is-copy-requires Inv-loop μ-loop
+is-copy-requires c κs = search needs
+
+returns-2 : tie.Need-returns-2 Inv-loop μ-loop
+returns-2 c =
+    let held = c .before .before .before in
+    let read = held .before .before in
+    let turn = read .before .before in
+    let a = turn .before .before .before .args in
+    rw (copy-or, ← c .before .is-copy .ensures, c .if1 .taken) at (later-turn (a .n) (a .m) (turn .before .loop .i) (now (a .part)) _ (turn .loop-test .taken) (read .decode .ensures) _ _ _ (turn .before .loop .inv .1) _ (held .s .given .1))
+
+add-i : tie.Need-add-i Inv-loop μ-loop
+add-i c = search needs
+
+loop-less : tie.Need-loop-less Inv-loop μ-loop
+loop-less c = search needs
+
+loop-again : tie.Need-loop-again Inv-loop μ-loop
+loop-again c =
+    let held = c .before .before .before in
+    let read = held .before .before in
+    let turn = read .before .before in
+    let a = turn .before .before .before .args in
+    (search needs, rw (copy-or, ← c .before .is-copy .ensures, c .if1 .left) at (later-turn (a .n) (a .m) (turn .before .loop .i) (now (a .part)) _ (turn .loop-test .taken) (read .decode .ensures) _ _ _ (turn .before .loop .inv .1) _ (held .s .given .1)))
+
+returns-3 : tie.Need-returns-3 Inv-loop μ-loop
+unfolding later
+returns-3 c =
+    let a = c .before .before .before .args in
+    rw (sectors-end (a .n) (a .m) (c .before .loop .i) (now (a .part)) (c .loop-test .left)) at (c .before .loop .inv .1)
+
+pub comes-again-spec : {M : Type 1} → statement M
+comes-again-spec =
+    tie.close
+    (tie.spec
+    Inv-loop
+    μ-loop
+    loop-holds
+    mul-a
+    add-e
+    sub-decode
+    part-decode-start
+    part-decode-end
+    decode-requires
+    enum-known-s
+    returns
+    is-copy-requires
+    returns-2
+    add-i
+    loop-less
+    loop-again
+    returns-3)
