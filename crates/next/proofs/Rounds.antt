@@ -16,7 +16,7 @@ use Rattle.rules.specs.Next.{nextIn, next}
 use Rattle.scan.specs.declared.Found.{Found}
 use Rattle.scan.specs.declared.Found.the-variants.{Damage, Nothing, Hit}
 use Rattle.scan.specs.declared.Leg.{Leg}
-use Rattle.scan.specs.declared.Leg.the-variants.{Gone, Stand, Over}
+use Rattle.scan.specs.declared.Leg.the-variants.{Gone, Over}
 use Rattle.scan.specs.Scan.{sectors, searchLog}
 use Rattle.scan.specs.Next.{legOf, legScan, legFrom, leg, after, rounds, nextScanIn, nextScan}
 use Rattle.scan.proofs.Found.{the-type}
@@ -30,7 +30,7 @@ none-stands Damage up p = refl
 none-stands Nothing up p = refl
 none-stands (Hit e) up p = ⊎-elim (λ a. absurd (omega arith)) (λ b. absurd (omega arith)) p
 
-no-more : (up : Found) (on : ℕ → Answer) → OneOf (0 ∷ 1 ∷ []) (tagOf the-type up) → ended ≡ after (Over up) on
+pub no-more : (up : Found) (on : ℕ → Answer) → OneOf (0 ∷ 1 ∷ []) (tagOf the-type up) → ended ≡ after (Over up) on
 unfolding after
 no-more Damage on p = refl
 no-more Nothing on p = refl
@@ -44,28 +44,15 @@ gone-from h card k x t Nothing p = refl
 gone-from h card k x t (Hit e) p = ⊎-elim (λ a. absurd (omega arith)) (λ b. absurd (omega arith)) p
 
 -- l is the walk to x, with f walks left
-module _ (h : Head) (card : List ℕ) (k t x f : ℕ) (l : Leg) (w : Answer) (walked : l ≡ leg h card k t x) (more : 1 ≤ f) (inv : rounds h card k t f x ≡ w) where
-  round-turn : after l (rounds h card k t (f - 1)) ≡ w
-  unfolding rounds
-  round-turn = let one : f ≡ suc (f - 1) = omega arith in rw walked (ap (λ (g : ℕ). rounds h card k t g x) (sym one) ∙ inv)
+pub round-turn : (h : Head) (card : List ℕ) (k t x f : ℕ) (l : Leg) (w : Answer) → l ≡ leg h card k t x → 1 ≤ f → rounds h card k t f x ≡ w
+    → after l (rounds h card k t (f - 1)) ≡ w
+unfolding rounds
+round-turn h card k t x f l w walked more inv =
+    let one : f ≡ suc (f - 1) = omega arith in rw walked (ap (λ (g : ℕ). rounds h card k t g x) (sym one) ∙ inv)
 
-  pub round-gone : l ≡ Gone → refused 4 ≡ w
-  unfolding after
-  round-gone q = rw q at round-turn
-
-  pub round-stand : (e : Entry) → l ≡ Stand e → answer 0 (e .key) (e .stamp) (e .value) 0 ≡ w
-  unfolding after
-  round-stand e q = rw q at round-turn
-
-  pub round-end : (up : Found) → l ≡ Over up → OneOf (0 ∷ 1 ∷ []) (tagOf the-type up) → ended ≡ w
-  round-end up q p = no-more up (rounds h card k t (f - 1)) p ∙ (rw q at round-turn)
-
-  pub round-on : (up : Found) (e : Entry) → l ≡ Over up → up ≡ Hit e → rounds h card k t (f - 1) (e .key) ≡ w
-  unfolding after
-  round-on up e q is = rw (q, is) at round-turn
-
-  pub round-rises : (up : Found) (e : Entry) → l ≡ Over up → up ≡ Hit e → x < e .key
-  round-rises up e q is = over-above h card k t x e (sym walked ∙ q ∙ ap Over is)
+-- the keys rise
+pub round-rises : (h : Head) (card : List ℕ) (k t x : ℕ) (l : Leg) (up : Found) (e : Entry) → l ≡ leg h card k t x → l ≡ Over up → up ≡ Hit e → x < e .key
+round-rises h card k t x l up e walked q is = over-above h card k t x e (sym walked ∙ q ∙ ap Over is)
 
 -- the walk from the root that was found
 pub leg-root : (h : Head) (card : List ℕ) (k t x : ℕ) (root : Entry) (l : Leg) → searchLog t (sectors (h .n) card 1 (h .n)) ≡ Hit root
@@ -83,7 +70,6 @@ module _ (card : List ℕ) (k t : ℕ) (h : Head) (q : headOf card ≡ some h) w
   next-rounds = rw q at (next-scan card k t)
 
   pub next-lost : (f : Found) → f ≡ searchLog t (sectors (h .n) card 1 (h .n)) → OneOf (0 ∷ 1 ∷ []) (tagOf the-type f) → refused 4 ≡ next card k t
-  unfolding leg
+  unfolding leg after
   next-lost f found p =
-      round-gone h card k t k 4294967296 (leg h card k t k) (next card k t) refl (omega arith) next-rounds
-      (rw (sym found) (gone-from h card k k t f p))
+      rw (sym found, gone-from h card k k t f p) at (round-turn h card k t k 4294967296 (leg h card k t k) (next card k t) refl (omega arith) next-rounds)

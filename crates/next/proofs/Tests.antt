@@ -63,7 +63,8 @@ pub copy-or : (bib t : ℕ) (e : Entry) (rest : Bool) → if (leb (e .stamp) t) 
 unfolding isCopy
 copy-or bib t e rest = cases (leb (e .stamp) t) (eqb (e .key) bib)
   where
-    cases : (s k : Bool) → if s (if k true rest) rest ≡ if (s & k) true rest
+    cases : (s k : Bool) → if s (if k true rest) rest ≡ if (k & s) true rest
     cases true true = refl
     cases true false = refl
-    cases false k = refl
+    cases false true = refl
+    cases false false = refl

@@ -22,4 +22,4 @@ unfoldable pub isCandidate : ℕ → ℕ → Found → Entry → Bool
 isCandidate k t best e = isPost e & nearer k t best e
 
 unfoldable pub isCopy : ℕ → ℕ → Entry → Bool
-isCopy bib t e = leb (e .stamp) t & eqb (e .key) bib
+isCopy bib t e = eqb (e .key) bib & leb (e .stamp) t

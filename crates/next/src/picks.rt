@@ -52,8 +52,8 @@ pub fn is_candidate(k: u32, t: u32, best: Found, e: Entry) -> bool
 pub fn is_copy(bib: u32, t: u32, e: Entry) -> bool
     ensures { λ r. ⌜ r ≡ isCopy bib t e ⌝ }
 {
-    if e.stamp <= t {
-        return e.key == bib;
+    if e.key == bib {
+        return e.stamp <= t;
     }
     false
 }

@@ -1,11 +1,11 @@
-use Prim.Native.Nat.{_≤_, _-_}
+use Prim.Native.Nat.{_≤_, _+_, _-_}
 use mathlib.Core.Path.{_≡_}
 use native.Mathlib.Nat.{sub-zero}
 use native.Mathlib.Omega.{arith}
 use denote.Ref.{now}
 use Rattle.scan.specs.declared.Found.the-variants.{Nothing}
-use Rattle.scan.specs.Next.{legScan}
-use Rattle.scan.proofs.Loops.{leg-down, leg-lost, leg-absent, leg-copy, leg-out}
+use Rattle.scan.specs.Next.{pickUp, weigh, standIn, sectorsOf, legOf, stride, legScan}
+use Rattle.scan.proofs.Loops.{leg-turn, leg-out}
 use Rattle.scan.proofs.Parts.{down-inside}
 use borrow.Author.Needs.{needs}
 use Rattle.next.proofs.walk_to.Statement.{statement}
@@ -39,12 +39,22 @@ add-reads c = search needs
 enum-told : tie.Need-enum-told Inv-loop μ-loop
 enum-told c = search needs
 
-returns-2 : tie.Need-returns-2 Inv-loop μ-loop
-returns-2 c =
-    let found = c .before .before in
-    let turn = found .before .before in
+-- what the bucket's search says of the whole walk
+turn-at : (q : tie.After-search Inv-loop μ-loop) →
+    let turn = q .before .before in
     let a = turn .before .before .before .args in
-    leg-lost (a .head) (now (a .card)) (a .k) (a .x) (a .t) (turn .loop .reads) _ _ _ _ _ (omega arith) (found .search .ensures) (turn .loop .inv .3) (c .enum-told .given .1)
+    let here = sectorsOf (a .head) (now (a .card)) (turn .loop .b) in
+    stride (q .search .result) (legOf (standIn (a .k) (a .t) here Nothing) (turn .loop .up))
+    (legScan (a .head) (now (a .card)) (a .k) (a .x) (a .t) (a .head .n - (turn .loop .reads + 1)) (weigh (pickUp (a .x) (a .t)) here (turn .loop .up)))
+    ≡ legScan (a .head) (now (a .card)) (a .k) (a .x) (a .t) (a .head .n) Nothing (a .root) 0
+turn-at q =
+    let turn = q .before .before in
+    let a = turn .before .before .before .args in
+    leg-turn (a .head) (now (a .card)) (a .k) (a .x) (a .t) (turn .loop .reads) _ _ _ _ _ (omega arith) (q .search .ensures) (turn .loop .inv .3)
+
+returns-2 : tie.Need-returns-2 Inv-loop μ-loop
+unfolding stride
+returns-2 c = rw (c .enum-told .given .1) at (turn-at (c .before .before))
 
 enum-known-way : tie.Need-enum-known-way Inv-loop μ-loop
 enum-known-way c = search needs
@@ -56,13 +66,14 @@ loop-less : tie.Need-loop-less Inv-loop μ-loop
 loop-less c = search needs
 
 loop-again : tie.Need-loop-again Inv-loop μ-loop
+unfolding stride
 loop-again c =
     let down = c .before .before in
     let found = down .before .before in
     let turn = found .before .before in
     let a = turn .before .before .before .args in
     let inside = down-inside (a .head) (now (a .card)) (a .x) (a .t) (turn .loop .b) (turn .loop .header) _ _ (found .search .ensures) (down .way .given .1) in
-    (search needs, inside .0, inside .1, rw (c .key-above .ensures) (leg-down (a .head) (now (a .card)) (a .k) (a .x) (a .t) (turn .loop .reads) _ _ _ _ _ (omega arith) (found .search .ensures) (turn .loop .inv .3) _ (down .way .given .1)))
+    (search needs, inside .0, inside .1, rw (c .key-above .ensures) (rw (down .way .given .1) at (turn-at found)))
 
 enum-told-2 : tie.Need-enum-told-2 Inv-loop μ-loop
 enum-told-2 c = search needs
@@ -71,11 +82,8 @@ arrive-requires : tie.Need-arrive-requires Inv-loop μ-loop
 arrive-requires c κs = search needs
 
 returns-3 : tie.Need-returns-3 Inv-loop μ-loop
-returns-3 c =
-    let found = c .before .before .before in
-    let turn = found .before .before in
-    let a = turn .before .before .before .args in
-    rw (c .arrive .ensures) (leg-absent (a .head) (now (a .card)) (a .k) (a .x) (a .t) (turn .loop .reads) _ _ _ _ _ (omega arith) (found .search .ensures) (turn .loop .inv .3) (c .before .enum-told2 .given .1))
+unfolding stride
+returns-3 c = rw (c .arrive .ensures) (rw (c .before .enum-told2 .given .1) at (turn-at (c .before .before .before)))
 
 enum-told-3 : tie.Need-enum-told-3 Inv-loop μ-loop
 enum-told-3 c = search needs
@@ -84,11 +92,8 @@ arrive-requires-2 : tie.Need-arrive-requires-2 Inv-loop μ-loop
 arrive-requires-2 c κs = search needs
 
 returns-4 : tie.Need-returns-4 Inv-loop μ-loop
-returns-4 c =
-    let found = c .before .before .before in
-    let turn = found .before .before in
-    let a = turn .before .before .before .args in
-    rw (c .arrive2 .ensures) (leg-copy (a .head) (now (a .card)) (a .k) (a .x) (a .t) (turn .loop .reads) _ _ _ _ _ (omega arith) (found .search .ensures) (turn .loop .inv .3) _ (c .before .enum-told3 .given .1))
+unfolding stride
+returns-4 c = rw (c .arrive2 .ensures) (rw (c .before .enum-told3 .given .1) at (turn-at (c .before .before .before)))
 
 pub walk-to-spec : {M : Type 1} → statement M
 walk-to-spec =

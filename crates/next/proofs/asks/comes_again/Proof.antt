@@ -1,11 +1,12 @@
-use Prim.Native.Nat.{_≤_, _-_}
-use mathlib.Core.Path.{_≡_, refl}
+use Prim.Native.Nat.{_≤_, _+_, _-_}
+use mathlib.Core.Path.{_≡_, refl, _∙_}
+use mathlib.Core.List.{_∷_}
 use native.Mathlib.Omega.{arith}
 use lib.ListN.{length-take, length-drop}
 use denote.Ref.{now}
 use Rattle.scan.specs.Scan.{sectors}
 use Rattle.scan.specs.Next.{later}
-use Rattle.scan.proofs.Loops.{sectors-end, later-turn, later-ends}
+use Rattle.scan.proofs.Loops.{sectors-turn, sectors-end, later-other}
 use Rattle.next.proofs.Tests.{copy-or}
 use borrow.Author.Needs.{needs}
 use Rattle.next.proofs.asks.comes_again.Statement.{statement}
@@ -41,23 +42,30 @@ decode-requires c κs = simp (length-take, length-drop) (omega arith)
 enum-known-s : tie.Need-enum-known-s Inv-loop μ-loop
 enum-known-s c = search needs
 
-returns : tie.Need-returns Inv-loop μ-loop
-returns c =
-    let read = c .before in
-    let turn = read .before .before in
+-- what the sector read says of the whole pass
+turn-at : (q : tie.After-decode Inv-loop μ-loop) →
+    let turn = q .before .before in
     let a = turn .before .before .before .args in
-    later-ends (a .n) (a .m) (turn .before .loop .i) (now (a .part)) _ (turn .loop-test .taken) (read .decode .ensures) _ _ _ (turn .before .loop .inv .1) (c .match .keys2)
+    let i = turn .before .loop .i in
+    later (a .bib) (a .t) (q .decode .result ∷ sectors (a .n) (now (a .part)) (i + 1) (a .m - (i + 1)))
+    ≡ later (a .bib) (a .t) (sectors (a .n) (now (a .part)) (a .from) (a .m - a .from))
+turn-at q =
+    let turn = q .before .before in
+    let a = turn .before .before .before .args in
+    sectors-turn (λ l. later (a .bib) (a .t) l) (a .n) (a .m) (turn .before .loop .i) (now (a .part)) _ _
+    (turn .loop-test .taken) (q .decode .ensures) (turn .before .loop .inv .1)
+
+returns : tie.Need-returns Inv-loop μ-loop
+returns c = later-other _ _ _ _ (c .match .keys2) ∙ turn-at (c .before)
 
 is-copy-requires : tie.Need-is-copy-requires Inv-loop μ-loop
 is-copy-requires c κs = search needs
 
 returns-2 : tie.Need-returns-2 Inv-loop μ-loop
+unfolding later
 returns-2 c =
     let held = c .before .before .before in
-    let read = held .before .before in
-    let turn = read .before .before in
-    let a = turn .before .before .before .args in
-    rw (copy-or, ← c .before .is-copy .ensures, c .if1 .taken) at (later-turn (a .n) (a .m) (turn .before .loop .i) (now (a .part)) _ (turn .loop-test .taken) (read .decode .ensures) _ _ _ (turn .before .loop .inv .1) _ (held .s .given .1))
+    rw (held .s .given .1, copy-or, ← c .before .is-copy .ensures, c .if1 .taken) at (turn-at (held .before .before))
 
 add-i : tie.Need-add-i Inv-loop μ-loop
 add-i c = search needs
@@ -66,12 +74,10 @@ loop-less : tie.Need-loop-less Inv-loop μ-loop
 loop-less c = search needs
 
 loop-again : tie.Need-loop-again Inv-loop μ-loop
+unfolding later
 loop-again c =
     let held = c .before .before .before in
-    let read = held .before .before in
-    let turn = read .before .before in
-    let a = turn .before .before .before .args in
-    (search needs, rw (copy-or, ← c .before .is-copy .ensures, c .if1 .left) at (later-turn (a .n) (a .m) (turn .before .loop .i) (now (a .part)) _ (turn .loop-test .taken) (read .decode .ensures) _ _ _ (turn .before .loop .inv .1) _ (held .s .given .1)))
+    (search needs, rw (held .s .given .1, copy-or, ← c .before .is-copy .ensures, c .if1 .left) at (turn-at (held .before .before)))
 
 returns-3 : tie.Need-returns-3 Inv-loop μ-loop
 unfolding later
