@@ -1,7 +1,6 @@
 // The card for C and Rust: the six calls, exported. Each takes every input, and its contract is the rule.
 use rules::Answer;
 use rules::Digits;
-
 ghost use mathlib.Core.Path.{_≡_};
 ghost use Rattle.rules.specs.Look.{look};
 ghost use Rattle.rules.specs.Next.{next};
@@ -10,7 +9,13 @@ ghost use Rattle.rules.specs.Format.{format};
 ghost use Rattle.rules.specs.Write.{planAnswer, planCard, post, strike};
 
 #[no_mangle]
-pub extern "C" fn card_format(card: &mut [u8], buckets: u32, sectors: u32, td: u32, ti: u32) -> Answer
+pub extern "C" fn card_format(
+    card: &mut [u8],
+    buckets: u32,
+    sectors: u32,
+    td: u32,
+    ti: u32,
+) -> Answer
     ensures { λ r. ⌜ r ≡ planAnswer (format (now (card .entry)) buckets sectors td ti) ⌝ }
     ensures { λ _. ⌜ now (card .exit) ≡ planCard (now (card .entry)) (format (now (card .entry)) buckets sectors td ti) ⌝ }
 {

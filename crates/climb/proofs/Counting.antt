@@ -5,7 +5,6 @@ use mathlib.Core.Bool.{Bool, true, false}
 use mathlib.Core.Option.{Option, none, some}
 use mathlib.Core.List.{List, [], _∷_, _++_}
 use Prim.Native.Nat.{ℕ, zero, suc, _+_, _-_, _*_, _/_, _≤_, _<_}
-use native.Mathlib.Nat.{mul-le-mul}
 use native.Mathlib.Numerals.{add-one}
 use native.Mathlib.Omega.{arith}
 use borrow.Author.Tests.{lt-ltb, le-ltb}
@@ -30,9 +29,6 @@ use Rattle.climb.specs.declared.Renewed.{Renewed}
 use Rattle.climb.specs.Levels.{entriesOn, keptOn, limitOn, Tally, tally, countOn, needsOf, freshOver, isOpen, Read, AllRead, HandsOn}
 use Rattle.climb.proofs.Reading.{Reads, reads}
 use Rattle.climb.proofs.Rising.{count-room, count-full}
-
-pub base-small : (m n b : ℕ) → m ≤ 32 → n ≤ 4096 → b ≤ n → m * (b - 1) ≤ 131072
-base-small m n b p q r = mul-le-mul {n₂ = 32} {m₂ = 4096} p (omega arith)
 
 small-append : (es ds : List Entry) → AllSmall es → AllSmall ds → AllSmall (es ++ ds)
 small-append [] ds a b = b

@@ -20,6 +20,7 @@ use Rattle.rules.specs.Write.{stampOf, topStamp, topUsed}
 use Rattle.laws.proofs.Tools.{le-or-lt, and-true, bool-cases}
 use Rattle.laws.proofs.Heads.{bucket-fits}
 use Rattle.scan.specs.Look.{partOf}
+use Rattle.scan.proofs.Blanks.{zeros-append}
 use Rattle.scan.proofs.Parts.{sector-part}
 use Rattle.laws.proofs.Zeros.{zeros-get}
 use Rattle.bucket.specs.Shapes.{Shape}
@@ -63,12 +64,6 @@ stamp-split card i (suc a) c =
     let z : suc a + c ≡ suc (a + c) = omega arith in
     let y : i + suc a ≡ suc i + a = omega arith in
     rw (z, y) (ap (max (stampOf (sectorAt card i))) (stamp-split card (suc i) a c) ∙ max-assoc _ _ _)
-
-zeros-append : (xs ys : List ℕ) → zeros (xs ++ ys) ≡ (zeros xs & zeros ys)
-unfolding zeros
-zeros-append [] ys = refl
-zeros-append (zero ∷ xs) ys = zeros-append xs ys
-zeros-append (suc x ∷ xs) ys = refl
 
 -- a part is all zeros where none of its sectors is written
 part-zeros : (card : List ℕ) (i c : ℕ) → 16 * (i + c) ≤ length card → zeros (take (16 * c) (drop (16 * i) card)) ≡ unwritten card i c

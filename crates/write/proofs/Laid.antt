@@ -19,7 +19,7 @@ use Rattle.rules.specs.Rewrite.{Rise, oneBucket}
 use Rattle.rules.specs.Write.{Plan, refuse, accept, refuseIf, climb, rooted, logged, logFull, checked, finish, planOn, topUsed, latest}
 use Rattle.laws.proofs.Tools.{none-some, le-or-lt, eq-or-ne}
 use Rattle.laws.proofs.Run.{blanks-agree}
-use Rattle.laws.proofs.Paths.{Along, walk-reads}
+use Rattle.laws.proofs.Paths.{Along, along-map, walk-reads}
 use Rattle.laws.proofs.Used.{used-top, top-raw, used-within}
 use Rattle.laws.proofs.AsMet.{front-met}
 use Rattle.laws.proofs.Fresh.{rooted-fresh}
@@ -62,10 +62,6 @@ unfolding upward
 below-up h card f [] above a r = r
 below-up h card f (v ∷ p) above a r = below-up h card f p (v .number ∷ above) (a .1) (a .0, r)
 
-along-to : (P Q : Visit → Type 0) → ((v : Visit) → P v → Q v) → (p : List Visit) → Along P p → Along Q p
-along-to P Q f [] a = tt
-along-to P Q f (v ∷ p) a = (f v (a .0), along-to P Q f p (a .1))
-
 none-path : (rd : ℕ → Option (List Entry)) (t x f : ℕ) → pathIn rd t x f none ≡ none
 unfolding pathIn
 none-path rd t x f = refl
@@ -98,7 +94,7 @@ module _ (h : Head) (card : List ℕ) (hq : headOf card ≡ some h) (e : Entry) 
       record {
         shape = sh;
         reads = reads-up h card p [] rd tt;
-        below = below-up h card first p [] (along-to _ _ (λ v q. let k = used-top h card (v .number) (v .entries) (sh .long) q in omega arith) p rd) tt;
+        below = below-up h card first p [] (along-map (λ v. bucket h card (v .number) ≡ some (v .entries)) (λ v. v .number < first) (λ v q. let k = used-top h card (v .number) (v .entries) (sh .long) q in omega arith) p rd) tt;
         least = omega arith;
         free = λ c a b. top-raw h card c (omega arith) b;
         logs = walk-log h card latest (e .key) p w;
