@@ -1,31 +1,31 @@
 -- A write's plan, by what the count foretells: too full, or the card that the way up leaves.
-use mathlib.Core.Path.{_≡_, refl, ap, ap₂, sym, _∙_, subst}
-use mathlib.Core.Logic.{_⊎_, inl, inr, ⊎-elim}
-use mathlib.Core.Bool.{Bool, true, false, not}
+use mathlib.Core.Path.{_≡_, refl, ap, sym, _∙_, subst}
+use mathlib.Core.Logic.{_⊎_, ⊎-elim}
+use mathlib.Core.Bool.{Bool, true, false}
 use mathlib.Core.Option.{Option, none, some}
-use mathlib.Core.List.{List, [], _∷_, _++_}
-use Prim.Native.Nat.{ℕ, zero, suc, _+_, _-_, _*_, _≤_, _<_}
+use mathlib.Core.List.{List, [], _∷_}
+use Prim.Native.Nat.{ℕ, _+_, _-_, _≤_, _<_}
 use native.Mathlib.Omega.{arith}
-use lib.Dec.{leb, ltb, eqb}
+use lib.Dec.{ltb, eqb}
 use lib.ListN.{length}
 use borrow.Author.Tests.{lt-ltb, le-ltb, ltb-false, eq-eqb, ne-eqb}
 use Rattle.rules.specs.declared.Entry.{Entry}
 use Rattle.rules.specs.declared.Head.{Head}
-use Rattle.rules.specs.Plain.{if, _&_, _or_}
+use Rattle.rules.specs.Plain.{_&_, _or_}
 use Rattle.rules.specs.Layout.{headOf}
 use Rattle.rules.specs.Bucket.{bucket, log, logBlanks}
 use Rattle.rules.specs.Walk.{Visit, walk, pathIn}
 use Rattle.rules.specs.Rewrite.{Rise, oneBucket}
-use Rattle.rules.specs.Write.{Plan, refuse, accept, refuseIf, climb, rooted, logged, logFull, checked, finish, planOn, topUsed, latest}
+use Rattle.rules.specs.Write.{refuse, accept, refuseIf, climb, rooted, logged, logFull, checked, finish, planOn, topUsed, latest}
 use Rattle.laws.proofs.Tools.{none-some, le-or-lt, eq-or-ne}
 use Rattle.laws.proofs.Run.{blanks-agree}
 use Rattle.laws.proofs.Paths.{Along, along-map, walk-reads}
-use Rattle.laws.proofs.Used.{used-top, top-raw, used-within}
+use Rattle.laws.proofs.Used.{used-top, top-raw}
 use Rattle.laws.proofs.AsMet.{front-met}
 use Rattle.laws.proofs.Fresh.{rooted-fresh}
 use Rattle.bucket.specs.Shapes.{Shape}
 use Rattle.bucket.proofs.Room.{shape-of}
-use Rattle.climb.specs.Levels.{entriesOn, orEmpty, risen, riseOn, topped, Tally, tally, countOn, freshOver, isOpen, needsOf, upward, Read, AllRead, AllBelow, Ready}
+use Rattle.climb.specs.Levels.{entriesOn, orEmpty, risen, riseOn, topped, Tally, tally, countOn, freshOver, isOpen, needsOf, upward, AllRead, AllBelow, Ready}
 use Rattle.scan.specs.Look.{logOf}
 use Rattle.level.specs.Level.{usedOf}
 use Rattle.climb.proofs.Climbing.{rise-climb, foretells, tallyOf}
