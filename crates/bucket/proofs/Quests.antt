@@ -1,5 +1,5 @@
 -- The scan with a bucket's quest is the bucket's search, and that with the log's quest the log's.
-use mathlib.Core.Path.{_≡_, refl, ap, _∙_}
+use mathlib.Core.Path.{_≡_, refl, ap, sym, _∙_}
 use mathlib.Core.Bool.{Bool, true, false}
 use mathlib.Core.List.{List}
 use Prim.Native.Nat.{ℕ, _+_, _*_, _-_, _≤_}
@@ -11,6 +11,7 @@ use Rattle.rules.specs.declared.Head.{Head}
 use Rattle.rules.specs.declared.Sector.{Sector}
 use Rattle.rules.specs.declared.Sector.the-variants.{Held}
 use Rattle.rules.specs.Bucket.{joins}
+use Rattle.rules.specs.Plain.{if}
 use Rattle.rules.specs.Sector.{decode, isIndex}
 use Rattle.scan.specs.declared.Found.{Found}
 use Rattle.scan.specs.declared.Found.the-variants.{Nothing}
@@ -31,16 +32,13 @@ quest-way : (h : Entry) (x t : ℕ) (ss : List Sector) (q : Quest) → q ≡ buc
 unfolding bucketQuest fits kindFits joins takes prefers pick
 quest-way h x t ss q is = ap (λ (p : Quest). wayOf (p .index) (scanIn (fits p) (takes p) ss (takes p Nothing h))) is
 
-module _ (k x t n m : ℕ) (b : List ℕ) (s : Sector) (h : 4 ≤ m) (d : s ≡ decode n (take 16 b)) (e : Entry) (held : s ≡ Held e) (same : e .key ≡ k)
-    (q : Quest) (is : q ≡ bucketQuest e x t) where
-  -- the header that may not stand in a bucket
-  pub search-lost : fits q e ≡ false → Lost ≡ search k x t (sectors n b 0 m)
-  search-lost bad = first-bad k x t n m b s h d e held same (rw (is, quest-fits) at bad)
-
-  -- the scan behind the header
-  pub search-found : fits q e ≡ true
-      → wayOf (q .index) (scanIn (fits q) (takes q) (sectors n b 1 (m - 1)) (takes q Nothing e)) ≡ search k x t (sectors n b 0 m)
-  search-found good = quest-way e x t (sectors n b 1 (m - 1)) q is ∙ first-starts k x t n m b s h d e held same (rw (is, quest-fits) at good)
+-- the header read and tested, and the scan behind it
+pub search-told : (k x t n m : ℕ) (b : List ℕ) (s : Sector) (e : Entry) (q : Quest) (good : Bool) → 4 ≤ m → s ≡ decode n (take 16 b) → s ≡ Held e → e .key ≡ k
+    → q ≡ bucketQuest e x t → good ≡ fits q e
+    → if good (wayOf (q .index) (scanIn (fits q) (takes q) (sectors n b 1 (m - 1)) (takes q Nothing e))) Lost ≡ search k x t (sectors n b 0 m)
+search-told k x t n m b s e q true h d held same is fit =
+    quest-way e x t (sectors n b 1 (m - 1)) q is ∙ first-starts k x t n m b s h d e held same (sym (rw (is, quest-fits) at fit))
+search-told k x t n m b s e q false h d held same is fit = first-bad k x t n m b s h d e held same (sym (rw (is, quest-fits) at fit))
 
 log-quest : (t : ℕ) (ss : List Sector) → scanIn (fits (logQuest t)) (takes (logQuest t)) ss Nothing ≡ searchLog t ss
 unfolding logQuest fits takes prefers pickRoot searchLog

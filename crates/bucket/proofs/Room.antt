@@ -2,13 +2,13 @@
 use mathlib.Core.Path.{_≡_}
 use mathlib.Core.List.{List}
 use mathlib.Core.Option.{some}
-use Prim.Native.Nat.{ℕ, _+_, _*_, _-_, _≤_, _<_}
-use native.Mathlib.Nat.{mul-le-mul-left, mul-le-mul-right}
+use Prim.Native.Nat.{ℕ, _+_, _*_, _-_, _≤_}
+use native.Mathlib.Nat.{mul-le-mul-right}
 use native.Mathlib.Omega.{arith}
 use lib.ListN.{length}
 use Rattle.rules.specs.declared.Head.{Head}
 use Rattle.rules.specs.Layout.{base, headOf}
-use Rattle.laws.proofs.Heads.{Lim, head-facts, bucket-fits, log-fits}
+use Rattle.laws.proofs.Heads.{head-facts, bucket-fits, log-fits}
 use Rattle.bucket.specs.Shapes.{Shape}
 
 -- the card whose head was read has the shape

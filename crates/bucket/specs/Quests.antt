@@ -6,7 +6,7 @@ use Rattle.rules.specs.declared.Entry.{Entry}
 use Rattle.rules.specs.Plain.{if, _&_}
 use Rattle.rules.specs.Sector.{isIndex, isData, isRoot}
 use Rattle.scan.specs.declared.Found.{Found}
-use Rattle.scan.specs.declared.Found.the-variants.{Damage, Nothing, Hit}
+use Rattle.scan.specs.declared.Found.the-variants.{Hit}
 use Rattle.scan.specs.Scan.{choose}
 use Rattle.bucket.specs.declared.Quest.{Quest}
 

@@ -63,7 +63,7 @@ limit-within h [] l = (l .td2, l .tdm)
 limit-within h (e ∷ es) l =
     ⊎-elim (λ (t : isIndex e ≡ true). rw t (omega (arith, l .ti4), l .tim)) (λ (t : isIndex e ≡ false). rw t (l .td2, l .tdm)) (bool-cases (isIndex e))
 
-up-length : (i c : ℕ) → length (upFrom i c) ≡ c
+pub up-length : (i c : ℕ) → length (upFrom i c) ≡ c
 up-length i zero = refl
 up-length i (suc c) = ap suc (up-length (suc i) c)
 

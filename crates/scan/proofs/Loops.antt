@@ -1,14 +1,13 @@
 -- The turns of the loops, as the code has the numbers: what each way out of a turn says of the whole scan.
-use mathlib.Core.Path.{_≡_, refl, ap, ap₂, sym, _∙_, subst}
+use mathlib.Core.Path.{_≡_, refl, ap, sym, _∙_, subst}
 use mathlib.Core.Bool.{Bool, true, false}
 use mathlib.Core.Logic.{⊎-elim}
-use Prim.Native.Nat.{ℕ, zero, suc, _+_, _*_, _-_, _≤_, _<_}
+use Prim.Native.Nat.{ℕ, suc, _+_, _*_, _-_, _≤_, _<_}
 use native.Mathlib.Omega.{arith}
 use native.Mathlib.Nat.{add-sub-cancel-left}
 use native.Mathlib.Numerals.{add-one}
 use mathlib.Core.List.{List, [], _∷_}
-use lib.ListN.{length, take, drop}
-use lib.Dec.{leb, eqb}
+use lib.ListN.{take, drop}
 use borrow.Author.Tests.{eq-eqb, ne-eqb}
 use types.Run.{OneOf}
 use denote.Enum.Declared.{tagOf}
@@ -17,17 +16,19 @@ use Rattle.rules.specs.declared.Head.{Head}
 use Rattle.rules.specs.declared.Sector.{Sector}
 use Rattle.rules.specs.declared.Sector.the-variants.{Blank, Held, Damaged}
 use Rattle.rules.specs.Bucket.{joins}
-use Rattle.rules.specs.Plain.{if}
 use Rattle.rules.specs.Sector.{sectorAt, decode, isIndex}
 use Rattle.rules.proofs.Sector.{the-type}
 use Rattle.scan.specs.declared.Found.{Found}
-use Rattle.scan.specs.declared.Found.the-variants.{Damage, Nothing, Hit}
+use Rattle.scan.specs.declared.Found.the-variants.{Damage, Nothing}
 use Rattle.scan.specs.declared.Way.{Way}
 use Rattle.scan.specs.declared.Way.the-variants.{Lost, Down, Absent, Copy}
 use Rattle.scan.specs.declared.Trip.{Trip}
-use Rattle.scan.specs.Scan.{sectors, allBlank, scanIn, pick, wayOf, search}
+use Rattle.scan.specs.Scan.{sectors, scanIn, pick, wayOf, search}
 use Rattle.scan.specs.Look.{searchAt, trip, onward, walkScan}
-use Rattle.scan.specs.Next.{weigh, standIn, pickNext, later}
+use Rattle.scan.specs.declared.Leg.{Leg}
+use Rattle.scan.specs.declared.Leg.the-variants.{Gone}
+use Rattle.scan.specs.Next.{pickUp, weigh, standIn, later, sectorsOf, legOf, stride, legScan}
+use Rattle.scan.proofs.Data.{Ends, data-weigh}
 
 -- the sectors from the i-th on, up to the m-th: the i-th, and those from the next on
 pub sectors-step : (n m i : ℕ) (b : List ℕ) → i < m
@@ -46,6 +47,11 @@ pub sectors-first : (n m : ℕ) (b : List ℕ) → 4 ≤ m → sectors n b 0 m �
 unfolding sectors sectorAt
 sectors-first n m b h = let more : m ≡ suc (m - 1) = omega arith in ap (λ (k : ℕ). sectors n b 0 k) more
 
+-- any question g to the sectors from the i-th on, once the i-th was read as s; w is what the whole answers
+pub sectors-turn : {A : Type 0} (g : List Sector → A) (n m i : ℕ) (b : List ℕ) (s : Sector) (w : A) → i < m
+    → s ≡ decode n (take (16 * i + 16 - 16 * i) (drop (16 * i) b)) → g (sectors n b i (m - i)) ≡ w → g (s ∷ sectors n b (i + 1) (m - (i + 1))) ≡ w
+sectors-turn g n m i b s w h d inv = rw (sectors-step n m i b h, ← d) at inv
+
 -- neither an entry nor blank, as the two elses have it
 pub damaged-at : (ok : Entry → Bool) (pick : Found → Entry → Found) (best : Found) (s : Sector) (l : List Sector)
     → OneOf (0 ∷ 2 ∷ []) (tagOf the-type s) → OneOf (1 ∷ 2 ∷ []) (tagOf the-type s) → Damage ≡ scanIn ok pick (s ∷ l) best
@@ -53,17 +59,6 @@ unfolding scanIn
 damaged-at ok pick best Blank l p q = ⊎-elim (λ a. absurd (omega arith)) (λ c. absurd (omega arith)) q
 damaged-at ok pick best (Held e) l p q = ⊎-elim (λ a. absurd (omega arith)) (λ c. absurd (omega arith)) p
 damaged-at ok pick best Damaged l p q = refl
-
--- the sector s was read at i; w is what the whole scan says
-pub scan-turn : (ok : Entry → Bool) (pick : Found → Entry → Found) (n m i : ℕ) (b : List ℕ) (s : Sector) (best w : Found) → i < m
-    → s ≡ decode n (take (16 * i + 16 - 16 * i) (drop (16 * i) b)) → scanIn ok pick (sectors n b i (m - i)) best ≡ w
-    → scanIn ok pick (s ∷ sectors n b (i + 1) (m - (i + 1))) best ≡ w
-scan-turn ok pick n m i b s best w h d inv = rw (sectors-step n m i b h, ← d) at inv
-
-pub scan-end : (ok : Entry → Bool) (pick : Found → Entry → Found) (n m i : ℕ) (b : List ℕ) (best w : Found) → m ≤ i
-    → scanIn ok pick (sectors n b i (m - i)) best ≡ w → best ≡ w
-unfolding scanIn
-scan-end ok pick n m i b best w h inv = rw (sectors-end n m i b h) at inv
 
 -- the header, read before the loop
 first-other-kind : (k x t : ℕ) (s : Sector) (l : List Sector) → OneOf (0 ∷ 2 ∷ []) (tagOf the-type s) → Lost ≡ search k x t (s ∷ l)
@@ -98,75 +93,56 @@ module _ (k x t n m : ℕ) (b : List ℕ) (s : Sector) (h : 4 ≤ m) (d : s ≡ 
   unfolding search scanIn
   first-starts e is same good = rw (sectors-first n m b h, ← d, is, eq-eqb (e .key) k same, good)
 
--- next's passes: an entry is one turn more, anything else the end
-weigh-other : (pick : Found → Entry → Found) (s : Sector) (l : List Sector) (best : Found) → OneOf (0 ∷ 2 ∷ []) (tagOf the-type s) → best ≡ weigh pick (s ∷ l) best
+-- a sector that is no entry ends each of next's passes
+pub weigh-other : (pick : Found → Entry → Found) (s : Sector) (l : List Sector) (best : Found) → OneOf (0 ∷ 2 ∷ []) (tagOf the-type s) → best ≡ weigh pick (s ∷ l) best
 unfolding weigh
 weigh-other pick Blank l best p = refl
 weigh-other pick (Held e) l best p = ⊎-elim (λ a. absurd (omega arith)) (λ c. absurd (omega arith)) p
 weigh-other pick Damaged l best p = refl
 
-stand-other : (k t : ℕ) (s : Sector) (l : List Sector) (best : Found) → OneOf (0 ∷ 2 ∷ []) (tagOf the-type s) → best ≡ standIn k t (s ∷ l) best
+pub stand-other : (k t : ℕ) (s : Sector) (l : List Sector) (best : Found) → OneOf (0 ∷ 2 ∷ []) (tagOf the-type s) → best ≡ standIn k t (s ∷ l) best
 unfolding standIn
 stand-other k t Blank l best p = refl
 stand-other k t (Held e) l best p = ⊎-elim (λ a. absurd (omega arith)) (λ c. absurd (omega arith)) p
 stand-other k t Damaged l best p = refl
 
-later-other : (x t : ℕ) (s : Sector) (l : List Sector) → OneOf (0 ∷ 2 ∷ []) (tagOf the-type s) → false ≡ later x t (s ∷ l)
+pub later-other : (x t : ℕ) (s : Sector) (l : List Sector) → OneOf (0 ∷ 2 ∷ []) (tagOf the-type s) → false ≡ later x t (s ∷ l)
 unfolding later
 later-other x t Blank l p = refl
 later-other x t (Held e) l p = ⊎-elim (λ a. absurd (omega arith)) (λ c. absurd (omega arith)) p
 later-other x t Damaged l p = refl
 
-module _ (n m i : ℕ) (b : List ℕ) (s : Sector) (h : i < m) (d : s ≡ decode n (take (16 * i + 16 - 16 * i) (drop (16 * i) b))) where
-  pub weigh-more : (pick : Found → Entry → Found) (best w : Found) → weigh pick (sectors n b i (m - i)) best ≡ w → (e : Entry) → s ≡ Held e
-      → weigh pick (sectors n b (i + 1) (m - (i + 1))) (pick best e) ≡ w
-  unfolding weigh
-  weigh-more pick best w inv e is = rw (sectors-step n m i b h, ← d, is) at inv
-
-  pub weigh-ends : (pick : Found → Entry → Found) (best w : Found) → weigh pick (sectors n b i (m - i)) best ≡ w
-      → OneOf (0 ∷ 2 ∷ []) (tagOf the-type s) → best ≡ w
-  weigh-ends pick best w inv p = weigh-other pick s (sectors n b (i + 1) (m - (i + 1))) best p ∙ (rw (sectors-step n m i b h, ← d) at inv)
-
-  pub stand-more : (k t : ℕ) (best w : Found) → standIn k t (sectors n b i (m - i)) best ≡ w → (e : Entry) → s ≡ Held e
-      → standIn k t (sectors n b (i + 1) (m - (i + 1))) (pickNext k t (later (e .key) t (sectors n b (i + 1) (m - (i + 1)))) best e) ≡ w
-  unfolding standIn
-  stand-more k t best w inv e is = rw (sectors-step n m i b h, ← d, is) at inv
-
-  pub stand-ends : (k t : ℕ) (best w : Found) → standIn k t (sectors n b i (m - i)) best ≡ w
-      → OneOf (0 ∷ 2 ∷ []) (tagOf the-type s) → best ≡ w
-  stand-ends k t best w inv p = stand-other k t s (sectors n b (i + 1) (m - (i + 1))) best p ∙ (rw (sectors-step n m i b h, ← d) at inv)
-
-  pub later-turn : (x t : ℕ) (w : Bool) → later x t (sectors n b i (m - i)) ≡ w → (e : Entry) → s ≡ Held e
-      → if (leb (e .stamp) t) (if (eqb (e .key) x) true (later x t (sectors n b (i + 1) (m - (i + 1))))) (later x t (sectors n b (i + 1) (m - (i + 1)))) ≡ w
-  unfolding later
-  later-turn x t w inv e is = rw (sectors-step n m i b h, ← d, is) at inv
-
-  pub later-ends : (x t : ℕ) (w : Bool) → later x t (sectors n b i (m - i)) ≡ w → OneOf (0 ∷ 2 ∷ []) (tagOf the-type s) → false ≡ w
-  later-ends x t w inv p = later-other x t s (sectors n b (i + 1) (m - (i + 1))) p ∙ (rw (sectors-step n m i b h, ← d) at inv)
-
 -- one bucket of the walk, as its loop has the numbers; s is what its search said
-module _ (h : Head) (card : List ℕ) (x t r b k : ℕ) (s : Way) (w : Trip) (lt : r < h .n) (said : s ≡ searchAt h card x t b k)
-    (inv : walkScan h card x t (h .n - r) r b k ≡ w) where
-  walk-turn : onward s (r + 1) (walkScan h card x t (h .n - (r + 1)) (r + 1)) ≡ w
-  unfolding walkScan
-  walk-turn = let more : h .n - r ≡ suc (h .n - (r + 1)) = omega arith in rw said (rw more at inv)
-
-  pub walk-down : (e : Entry) → s ≡ Down e → walkScan h card x t (h .n - (r + 1)) (r + 1) (e .value) (e .key) ≡ w
-  unfolding onward
-  walk-down e q = rw q at walk-turn
-
-  pub walk-lost : s ≡ Lost → trip 0 Damage ≡ w
-  unfolding onward
-  walk-lost q = rw q at walk-turn
-
-  pub walk-absent : s ≡ Absent → trip (r + 1) Nothing ≡ w
-  unfolding onward
-  walk-absent q = rw q at walk-turn
-
-  pub walk-copy : (e : Entry) → s ≡ Copy e → trip (r + 1) (Hit e) ≡ w
-  unfolding onward
-  walk-copy e q = rw q at walk-turn
+pub walk-turn : (h : Head) (card : List ℕ) (x t r b k : ℕ) (s : Way) (w : Trip) → r < h .n → s ≡ searchAt h card x t b k
+    → walkScan h card x t (h .n - r) r b k ≡ w → onward s (r + 1) (walkScan h card x t (h .n - (r + 1)) (r + 1)) ≡ w
+unfolding walkScan
+walk-turn h card x t r b k s w lt said inv = let more : h .n - r ≡ suc (h .n - (r + 1)) = omega arith in rw said (rw more at inv)
 
 pub walk-out : (h : Head) (card : List ℕ) (x t r b k : ℕ) (w : Trip) → r ≡ h .n → walkScan h card x t (h .n - r) r b k ≡ w → trip 0 Damage ≡ w
 unfolding walkScan
 walk-out h card x t r b k w e inv = let z : h .n - r ≡ 0 = omega arith in rw z at inv
+
+-- the data bucket is asked for bibs alone, an index bucket for keys alone
+stride-here : (s : Way) (here there : Leg) (on : ℕ → ℕ → Leg) → (Ends s → here ≡ there) → stride s here on ≡ stride s there on
+unfolding stride
+stride-here Lost here there on same = refl
+stride-here (Down e) here there on same = refl
+stride-here Absent here there on same = same tt
+stride-here (Copy e) here there on same = same tt
+
+-- one bucket of a walk of next
+pub leg-turn : (h : Head) (card : List ℕ) (k x t r b j : ℕ) (up : Found) (s : Way) (w : Leg) → r < h .n → s ≡ searchAt h card x t b j
+    → legScan h card k x t (h .n - r) up b j ≡ w
+    → stride s (legOf (standIn k t (sectorsOf h card b) Nothing) up) (legScan h card k x t (h .n - (r + 1)) (weigh (pickUp x t) (sectorsOf h card b) up)) ≡ w
+unfolding legScan
+leg-turn h card k x t r b j up s w lt said inv =
+    let more : h .n - r ≡ suc (h .n - (r + 1)) = omega arith in
+    let stand = standIn k t (sectorsOf h card b) Nothing in
+    let met = weigh (pickUp x t) (sectorsOf h card b) up in
+    stride-here s (legOf stand up) (legOf stand met) (legScan h card k x t (h .n - (r + 1)) met)
+    (λ e. ap (legOf stand) (sym (data-weigh h card x t b j up (subst Ends said e))))
+    ∙ rw said (rw more at inv)
+
+pub leg-out : (h : Head) (card : List ℕ) (k x t r b j : ℕ) (up : Found) (w : Leg) → r ≡ h .n → legScan h card k x t (h .n - r) up b j ≡ w → Gone ≡ w
+unfolding legScan
+leg-out h card k x t r b j up w e inv = let z : h .n - r ≡ 0 = omega arith in rw z at inv

@@ -1,13 +1,10 @@
 -- A bucket handed over as a part of the card has the card's sectors; where the walk goes is a bucket of the card; the keys of next rise.
 use mathlib.Core.Path.{_≡_, refl, ap, ap₂, sym, _∙_, subst}
 use mathlib.Core.Bool.{Bool, true, false}
-use mathlib.Core.Logic.{⊎-elim}
-use mathlib.Core.Option.{Option, none, some}
 use Prim.Native.Nat.{ℕ, zero, suc, _+_, _*_, _-_, _≤_, _<_}
 use native.Mathlib.Omega.{arith}
-use native.Mathlib.Nat.{mul-le-mul-left, mul-suc, mul-comm, mul-add}
-use mathlib.Core.List.{List, [], _∷_, _++_}
-use lib.ListN.{length, getD, take, drop, length-take, length-drop, take-append-drop}
+use mathlib.Core.List.{List, [], _∷_}
+use lib.ListN.{length, take, drop, length-drop, take-append-drop}
 use lib.Seq.{length-take-le, take-append-le, drop-append-le, drop-drop}
 use lib.Dec.{leb, ltb, eqb}
 use borrow.Author.Tests.{leb-true, eqb-true, ltb-true}
@@ -16,10 +13,10 @@ use Rattle.rules.specs.declared.Head.{Head}
 use Rattle.rules.specs.declared.Sector.{Sector}
 use Rattle.rules.specs.declared.Sector.the-variants.{Blank, Held, Damaged}
 use Rattle.rules.specs.Bucket.{joins}
-use Rattle.rules.specs.Layout.{base, sizeOf, limits, headFields, headIn, headOf}
+use Rattle.rules.specs.Layout.{base}
 use Rattle.rules.specs.Plain.{if, _&_, zeros}
-use Rattle.rules.specs.Sector.{sectorAt, legal, fields, decode, isIndex, isData, isRoot}
-use Rattle.laws.proofs.Tools.{and-true, guard-true}
+use Rattle.rules.specs.Sector.{sectorAt, legal, fields, decode, isIndex, isRoot}
+use Rattle.laws.proofs.Tools.{and-true}
 use Rattle.scan.specs.declared.Found.{Found}
 use Rattle.scan.specs.declared.Found.the-variants.{Damage, Nothing, Hit}
 use Rattle.scan.specs.declared.Way.{Way}
@@ -54,15 +51,20 @@ sectors-part n card o m i (suc c) long le =
     (sectors-part n card o m (suc i) c long (omega arith)
     ∙ ap (λ (k : ℕ). sectors n card k c) (let z : o + suc i ≡ suc (o + i) = omega arith in z))
 
+-- the sectors of bucket b are those of its part
+pub part-sectors : (h : Head) (card : List ℕ) (b : ℕ) → 16 * (base h b + h .m) ≤ length card
+    → sectors (h .n) (partOf h card b) 0 (h .m) ≡ sectorsOf h card b
+unfolding partOf sectorsOf
+part-sectors h card b long =
+    sectors-part (h .n) card (base h b) (h .m) 0 (h .m) long (omega arith)
+    ∙ ap (λ (i : ℕ). sectors (h .n) card i (h .m)) (let z : base h b + 0 ≡ base h b = omega arith in z)
+
 -- the bucket's scan is the scan of its part
 pub search-part : (h : Head) (card : List ℕ) (x t b k : ℕ) → 1 ≤ b → 16 * (base h b + h .m) ≤ length card
     → search k x t (sectors (h .n) (partOf h card b) 0 (h .m)) ≡ searchAt h card x t b k
-unfolding searchAt partOf
+unfolding searchAt sectorsOf
 search-part h card x t zero k one long = absurd (omega arith)
-search-part h card x t (suc b) k one long =
-    ap (search k x t)
-    (sectors-part (h .n) card (base h (suc b)) (h .m) 0 (h .m) long (omega arith)
-    ∙ ap (λ (i : ℕ). sectors (h .n) card i (h .m)) (let z : base h (suc b) + 0 ≡ base h (suc b) = omega arith in z))
+search-part h card x t (suc b) k one long = ap (search k x t) (part-sectors h card (suc b) long)
 
 -- the entries that are read keep their row
 abbrev Fine : ℕ → Sector → Type 0

@@ -1,10 +1,15 @@
 -- The track of a write is the rule's walk: its buckets in the order of the way up. A turn of its loop.
 use mathlib.Core.Path.{_≡_, refl, ap, sym, _∙_}
+use mathlib.Core.Logic.{⊎-elim}
+use mathlib.Core.Bool.{false}
 use mathlib.Core.Option.{Option, none, some}
 use mathlib.Core.List.{List, [], _∷_}
 use Prim.Native.Nat.{ℕ, zero, suc, _+_, _-_, _≤_, _<_}
 use native.Mathlib.Numerals.{add-one}
 use native.Mathlib.Omega.{arith}
+use types.Run.{OneOf}
+use denote.Enum.Declared.{tagOf}
+use Rattle.scan.proofs.Found.{the-type}
 use lib.ListN.{length, drop, set, getD, length-set, drop-of-length-le}
 use lib.Seq.{drop-cons, drop-set-lt, getD-set-same}
 use Rattle.rules.specs.declared.Entry.{Entry}
@@ -20,9 +25,10 @@ use Rattle.scan.specs.Scan.{sectors, wayOf, searchLog}
 use Rattle.scan.specs.Look.{searchAt}
 use Rattle.scan.proofs.Picks.{hit}
 use Rattle.scan.proofs.Ways.{wayOn, wayIn, search-bucket, rootOf, lastLeft, search-log}
-use Rattle.scan.proofs.Looks.{Filled, path-filled}
+use Rattle.scan.proofs.Looks.{Filled, path-filled, in-then}
 use Rattle.climb.specs.Levels.{upward}
-use Rattle.trail.specs.Trail.{Track, track, trackOn, trackScan, trackFrom}
+use Rattle.trail.specs.declared.Trail.{Trail}
+use Rattle.trail.specs.Trail.{Track, track, trackOn, trackScan, trackFrom, Leads, Damaged}
 
 -- the track of a path, below those that were met above it
 unfoldable pub trackIn : ℕ → List ℕ → Option (List Visit) → Track
@@ -70,3 +76,78 @@ unfolding trackFrom pathFrom rootOf trackIn
 track-from h card x Damage = refl
 track-from h card x Nothing = refl
 track-from h card x (Hit e) = track-path h card x (h .n) [] (e .value) 0
+
+-- from the log on
+pub track-walk : (h : Head) (card : List ℕ) (x : ℕ) → trackFrom h card x (searchLog latest (sectors (h .n) card 1 (h .n))) ≡ trackIn x [] (walk h card latest x)
+unfolding walk
+track-walk h card x =
+    track-from h card x (searchLog latest (sectors (h .n) card 1 (h .n)))
+    ∙ ap (λ r. trackIn x [] (pathFrom (bucket h card) latest x (h .n) r)) (search-log h card latest)
+    ∙ ap (trackIn x []) (in-then (bucket h card) latest x (h .n) (log h card))
+
+-- no root entry is left, as the other branch has it
+pub no-root : (h : Head) (card : List ℕ) (x : ℕ) (f : Found) → OneOf (0 ∷ 1 ∷ []) (tagOf the-type f) → track [] Damage ≡ trackFrom h card x f
+unfolding trackFrom
+no-root h card x Damage p = refl
+no-root h card x Nothing p = refl
+no-root h card x (Hit e) p = ⊎-elim (λ a. absurd (omega arith)) (λ b. absurd (omega arith)) p
+
+-- the log's root entry, before any bucket is written down
+pub hit-from : (h : Head) (card : List ℕ) (x : ℕ) (path : List ℕ) (f : Found) (e : Entry) → length path ≡ 4096 → f ≡ Hit e
+    → trackScan h card x (h .n) (drop 4096 path) (e .value) 0 ≡ trackFrom h card x f
+unfolding trackFrom
+hit-from h card x path f e long q =
+    rw q (ap (λ (l : List ℕ). trackScan h card x (h .n) l (e .value) 0) (drop-of-length-le path {i = 4096} (omega arith)))
+
+-- a bucket written down in front of those above it
+store-front : (path : List ℕ) (i b : ℕ) → i < length path → drop i (set path i b) ≡ b ∷ drop (suc i) path
+store-front path i b lt =
+    let long : i < length (set path i b) = simp length-set lt in
+    drop-cons (set path i b) i 0 long ∙ rw (getD-set-same path i b 0 lt, drop-set-lt (suc i) path i b (omega arith))
+
+pub lost-leads : (r : Trail) (path : List ℕ) (t : Track) → Damaged r → length path ≡ 4096 → track [] Damage ≡ t → Leads r path t
+lost-leads r path t d long e =
+    record {
+      long = long;
+      most = omega (arith, d .start);
+      levels = drop-of-length-le path {i = r .start} (omega (arith, d .start)) ∙ ap (λ (y : Track). y .path) e;
+      found = d .found ∙ ap (λ (y : Track). y .found) e;
+    }
+
+pub came-leads : (start : ℕ) (f : Found) (path : List ℕ) (t : Track) → length path ≡ 4096 → start ≤ 4096 → track (drop start path) f ≡ t
+    → Leads (record { start = start; found = f }) path t
+came-leads start f path t long most e =
+    record { long = long; most = most; levels = ap (λ (y : Track). y .path) e; found = ap (λ (y : Track). y .found) e }
+
+pub track-out : (h : Head) (card : List ℕ) (x r b k : ℕ) (above : List ℕ) (w : Track) → r ≡ h .n → trackScan h card x (h .n - r) above b k ≡ w → track [] Damage ≡ w
+unfolding trackScan
+track-out h card x r b k above w e inv = let z : h .n - r ≡ 0 = omega arith in rw z at inv
+
+-- one bucket of the walk, as the loop has the numbers: s is what its search said
+module _ (h : Head) (card : List ℕ) (x r b k : ℕ) (path : List ℕ) (w : Track) (s : Way) (lt : r < h .n) (few : r < 4096) (long : length path ≡ 4096)
+    (said : s ≡ searchAt h card x latest b k) (inv : trackScan h card x (h .n - r) (drop (4096 - r) path) b k ≡ w) where
+  abbrev start : ℕ
+  start = 4096 - (r + 1)
+
+  stored : drop start (set path start b) ≡ b ∷ drop (4096 - r) path
+  stored = store-front path start b (omega arith) ∙ ap (λ (n : ℕ). b ∷ drop n path) (let z : suc start ≡ 4096 - r = omega arith in z)
+
+  track-turn : trackOn s (drop start (set path start b)) (trackScan h card x (h .n - (r + 1)) (drop start (set path start b))) ≡ w
+  unfolding trackScan
+  track-turn = let more : h .n - r ≡ suc (h .n - (r + 1)) = omega arith in rw (said, stored) (rw more at inv)
+
+  pub track-down : (e : Entry) → s ≡ Down e → trackScan h card x (h .n - (r + 1)) (drop start (set path start b)) (e .value) (e .key) ≡ w
+  unfolding trackOn
+  track-down e q = rw q at track-turn
+
+  pub track-lost : s ≡ Lost → track [] Damage ≡ w
+  unfolding trackOn
+  track-lost q = rw q at track-turn
+
+  pub track-absent : s ≡ Absent → track (drop start (set path start b)) Nothing ≡ w
+  unfolding trackOn
+  track-absent q = rw q at track-turn
+
+  pub track-copy : (e : Entry) → s ≡ Copy e → track (drop start (set path start b)) (Hit e) ≡ w
+  unfolding trackOn
+  track-copy e q = rw q at track-turn

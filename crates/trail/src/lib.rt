@@ -2,7 +2,6 @@
 use rules::Head;
 use scan::Found;
 use scan::Way;
-
 ghost use mathlib.Core.Path.{_≡_};
 ghost use Prim.Native.Nat.{_+_, _≤_};
 ghost use lib.ListN.{length, drop};
@@ -64,7 +63,7 @@ fn descend(card: &[u8], head: Head, root: u32, key: u32, path: &mut [u32]) -> Tr
     }
 }
 
-pub fn trail(card: &[u8], head: Head, key: u32, path: &mut [u32]) -> Trail
+pub fn walk_down(card: &[u8], head: Head, key: u32, path: &mut [u32]) -> Trail
     requires { ⌜ Shape head (now card) × (length (now path) ≡ 4096) ⌝ }
     ensures { λ r. ⌜ Leads r (now (path .exit)) (trackFrom head (now (card .entry)) key (searchLog 4294967295 (sectors (head .n) (now (card .entry)) 1 (head .n)))) ⌝ }
 {

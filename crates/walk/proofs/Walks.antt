@@ -1,15 +1,13 @@
 -- What the steps of a look say of the rule: the layout, the root, the answer.
-use mathlib.Core.Path.{_≡_, refl, ap, sym, _∙_}
+use mathlib.Core.Path.{_≡_, refl}
 use mathlib.Core.Logic.{⊎-elim}
 use mathlib.Core.Option.{Option, none, some}
 use mathlib.Core.List.{List, [], _∷_}
 use Prim.Native.Nat.{ℕ}
 use native.Mathlib.Omega.{arith}
-use lib.Dec.{eqb}
 use borrow.Author.Tests.{eq-eqb, ne-eqb}
 use types.Run.{OneOf}
 use denote.Enum.Declared.{tagOf}
-use Rattle.rules.specs.declared.Answer.{Answer}
 use Rattle.rules.specs.declared.Head.{Head}
 use Rattle.rules.specs.Answers.{refused}
 use Rattle.rules.specs.Layout.{headOf}
@@ -17,7 +15,7 @@ use Rattle.rules.specs.Look.{lookIn, look}
 use Rattle.scan.specs.declared.Found.{Found}
 use Rattle.scan.specs.declared.Found.the-variants.{Damage, Nothing, Hit}
 use Rattle.scan.specs.declared.Trip.{Trip}
-use Rattle.scan.specs.Look.{trip, tripFrom, told, toldOf, lookScanIn, lookScan}
+use Rattle.scan.specs.Look.{trip, tripFrom, told, lookScanIn, lookScan}
 use Rattle.scan.specs.Scan.{sectors, searchLog}
 use Rattle.scan.proofs.Found.{the-type}
 use Rattle.scan.proofs.Looks.{look-scan}

@@ -21,13 +21,10 @@ pub enum Layout {
     Sound(Head),
 }
 
-fn lost() -> Trip
-    ensures { λ r. ⌜ r ≡ trip 0 Found.Damage ⌝ }
+fn trip_of(reads: u32, found: Found) -> Trip
+    ensures { λ r. ⌜ r ≡ trip reads found ⌝ }
 {
-    Trip {
-        reads: 0,
-        found: Found::Damage,
-    }
+    Trip { reads, found }
 }
 
 // From the root down, one bucket a turn, which is counted. The buckets read are at most as many as the card has.
@@ -42,28 +39,19 @@ fn descend(card: &[u8], head: Head, root: u32, key: u32, stamp: u32) -> Trip
     let mut reads: u32 = 0;
     loop {
         if reads == n {
-            return lost();
+            return trip_of(0, Found::Damage);
         }
         let way = bucket::search(card, head, b, header, key, stamp);
-        reads += 1;
+        let count = reads + 1;
         match way {
-            Way::Lost => return lost(),
+            Way::Lost => return trip_of(0, Found::Damage),
             Way::Down(e) => {
                 b = e.value;
                 header = e.key;
+                reads = count;
             }
-            Way::Absent => {
-                return Trip {
-                    reads,
-                    found: Found::Nothing,
-                };
-            }
-            Way::Copy(e) => {
-                return Trip {
-                    reads,
-                    found: Found::Hit(e),
-                };
-            }
+            Way::Absent => return trip_of(count, Found::Nothing),
+            Way::Copy(e) => return trip_of(count, Found::Hit(e)),
         }
     }
 }
@@ -75,7 +63,7 @@ pub fn walk(card: &[u8], head: Head, key: u32, stamp: u32) -> Trip
 {
     let found = bucket::find_root(card, head, stamp);
     let Found::Hit(root) = found else {
-        return lost();
+        return trip_of(0, Found::Damage);
     };
     descend(card, head, root.value, key, stamp)
 }

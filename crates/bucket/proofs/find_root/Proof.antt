@@ -18,7 +18,8 @@ returns : tie.Need-returns
 returns c =
     let e = c .before .before .before .before in
     let card = now (e .args .card) in
-    log-found (e .args .head) card _ (e .args .stamp) _ _ (log-fits (e .args .head) card (e .pre .long)) (c .before .before .log-part .ensures .0) (c .before .log-quest .ensures) (c .scan-from .ensures)
+    let fits = log-fits (e .args .head) card (e .pre .long) in
+    log-found (e .args .head) card _ (e .args .stamp) _ _ fits (c .before .before .log-part .ensures .0) (c .before .log-quest .ensures) (c .scan-from .ensures)
 
 pub find-root-spec : {M : Type 1} → statement M
 find-root-spec =

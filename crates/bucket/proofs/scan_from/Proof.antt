@@ -7,7 +7,7 @@ use denote.Ref.{now}
 use Rattle.rules.specs.Plain.{zeros}
 use Rattle.scan.specs.Scan.{sectors, allBlank, scanIn}
 use Rattle.scan.proofs.Blanks.{rest-blank}
-use Rattle.scan.proofs.Loops.{scan-turn, scan-end, damaged-at}
+use Rattle.scan.proofs.Loops.{sectors-turn, sectors-end, damaged-at}
 use Rattle.bucket.specs.Quests.{fits, takes}
 use borrow.Author.Needs.{needs}
 use Rattle.bucket.proofs.scan_from.Statement.{statement}
@@ -80,7 +80,8 @@ turn-at : (q : tie.After-decode Inv-loop μ-loop) →
 turn-at q =
     let turn = q .before .before .before in
     let a = turn .before .before .args in
-    scan-turn _ _ (a .n) (a .count) (turn .loop .i) (now (a .part)) _ _ _ (omega (arith, turn .loop .inv .0, q .before .before .if1 .left)) (q .decode .ensures) (turn .loop .inv .1)
+    sectors-turn (λ l. scanIn (fits (a .quest)) (takes (a .quest)) l (turn .loop .best)) (a .n) (a .count) (turn .loop .i) (now (a .part)) _ _
+    (omega (arith, turn .loop .inv .0, q .before .before .if1 .left)) (q .decode .ensures) (turn .loop .inv .1)
 
 -- the bytes behind it
 rest-at : (q : tie.After-decode Inv-loop μ-loop) →
@@ -101,10 +102,11 @@ loop-again c =
     (search needs, rw (c .takes .ensures) (rw (judged .before .before .s .given .1, ← judged .fits2 .ensures, c .before .if3 .taken) at (turn-at read)))
 
 returns : tie.Need-returns Inv-loop μ-loop
+unfolding scanIn
 returns c =
     let turn = c .before in
     let a = turn .before .before .args in
-    scan-end _ _ (a .n) (a .count) (turn .loop .i) (now (a .part)) _ _ (omega arith) (turn .loop .inv .1)
+    rw (sectors-end (a .n) (a .count) (turn .loop .i) (now (a .part)) (omega arith)) at (turn .loop .inv .1)
 
 returns-2 : tie.Need-returns-2 Inv-loop μ-loop
 returns-2 c = damaged-at _ _ _ _ _ (c .before .match .keys2) (c .match2 .keys2) ∙ turn-at (c .before .before)

@@ -1,4 +1,3 @@
-use mathlib.Core.Path.{_∙_}
 use denote.Ref.{now}
 use Rattle.laws.proofs.Heads.{bucket-fits}
 use Rattle.scan.proofs.Parts.{search-part}
@@ -17,7 +16,8 @@ returns c =
     let e = c .before .before .before in
     let a = e .args in
     let fits = bucket-fits (a .head) (now (a .card)) (a .b) (e .pre .0 .long) (e .pre .1 .0) (e .pre .1 .1) in
-    (rw (c .before .bucket-part .ensures .0) at (c .search-part .ensures)) ∙ search-part (a .head) (now (a .card)) (a .key) (a .stamp) (a .b) (a .header) (e .pre .1 .0) fits
+    rw (c .search-part .ensures, c .before .bucket-part .ensures .0)
+    (search-part (a .head) (now (a .card)) (a .key) (a .stamp) (a .b) (a .header) (e .pre .1 .0) fits)
 
 pub search-spec : {M : Type 1} → statement M
 search-spec = tie.close (tie.spec bucket-part-requires search-part-requires returns)

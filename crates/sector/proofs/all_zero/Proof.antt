@@ -35,7 +35,8 @@ loop-again : tie.Need-loop-again Inv-loop μ-loop
 loop-again c =
     let turn = c .before .before in
     let seen = turn .before .loop in
-    (search needs, zeros-step (now (turn .before .before .before .args .s)) (seen .i) (seen .top) (c .larger .result) _ (turn .loop-test .taken) (c .larger .ensures) (seen .inv .1))
+    let s = now (turn .before .before .before .args .s) in
+    (search needs, zeros-step s (seen .i) (seen .top) (c .larger .result) _ (turn .loop-test .taken) (c .larger .ensures) (seen .inv .1))
 
 returns : tie.Need-returns Inv-loop μ-loop
 returns c =

@@ -1,10 +1,10 @@
-use Prim.Native.Nat.{_≤_, _-_}
+use Prim.Native.Nat.{_≤_, _+_, _-_}
 use mathlib.Core.Path.{_≡_}
 use native.Mathlib.Nat.{sub-zero}
 use native.Mathlib.Omega.{arith}
 use denote.Ref.{now}
-use Rattle.scan.specs.Look.{walkScan}
-use Rattle.scan.proofs.Loops.{walk-down, walk-lost, walk-absent, walk-copy, walk-out}
+use Rattle.scan.specs.Look.{onward, walkScan}
+use Rattle.scan.proofs.Loops.{walk-turn, walk-out}
 use Rattle.scan.proofs.Parts.{down-inside}
 use borrow.Author.Needs.{needs}
 use Rattle.walk.proofs.descend.Statement.{statement}
@@ -23,33 +23,42 @@ cast-n c = search needs
 loop-holds : tie.Need-loop-holds Inv-loop μ-loop
 loop-holds c = (search needs, search needs, search needs, rw sub-zero)
 
-lost-requires : tie.Need-lost-requires Inv-loop μ-loop
-lost-requires c κs = search needs
+trip-of-requires : tie.Need-trip-of-requires Inv-loop μ-loop
+trip-of-requires c κs = search needs
 
 returns : tie.Need-returns Inv-loop μ-loop
 returns c =
     let turn = c .before .before in
     let a = turn .before .before .before .args in
-    rw (c .lost .ensures) (walk-out (a .head) (now (a .card)) (a .key) (a .stamp) (turn .loop .reads) _ _ _ (c .before .if1 .taken) (turn .loop .inv .3))
+    rw (c .trip-of .ensures) (walk-out (a .head) (now (a .card)) (a .key) (a .stamp) (turn .loop .reads) _ _ _ (c .before .if1 .taken) (turn .loop .inv .3))
 
 search-requires : tie.Need-search-requires Inv-loop μ-loop
 search-requires c κs = search needs
 
-add-reads : tie.Need-add-reads Inv-loop μ-loop
-add-reads c = search needs
+add-count : tie.Need-add-count Inv-loop μ-loop
+add-count c = search needs
 
 enum-told : tie.Need-enum-told Inv-loop μ-loop
 enum-told c = search needs
 
-lost-requires-2 : tie.Need-lost-requires-2 Inv-loop μ-loop
-lost-requires-2 c κs = search needs
+trip-of-requires-2 : tie.Need-trip-of-requires-2 Inv-loop μ-loop
+trip-of-requires-2 c κs = search needs
+
+-- what the bucket's search says of the whole walk
+turn-at : (q : tie.After-search Inv-loop μ-loop) →
+    let turn = q .before .before in
+    let a = turn .before .before .before .args in
+    let count = turn .loop .reads + 1 in
+    onward (q .search .result) count (walkScan (a .head) (now (a .card)) (a .key) (a .stamp) (a .head .n - count) count)
+    ≡ walkScan (a .head) (now (a .card)) (a .key) (a .stamp) (a .head .n) 0 (a .root) 0
+turn-at q =
+    let turn = q .before .before in
+    let a = turn .before .before .before .args in
+    walk-turn (a .head) (now (a .card)) (a .key) (a .stamp) (turn .loop .reads) _ _ _ _ (omega arith) (q .search .ensures) (turn .loop .inv .3)
 
 returns-2 : tie.Need-returns-2 Inv-loop μ-loop
-returns-2 c =
-    let found = c .before .before .before in
-    let turn = found .before .before in
-    let a = turn .before .before .before .args in
-    rw (c .lost2 .ensures) (walk-lost (a .head) (now (a .card)) (a .key) (a .stamp) (turn .loop .reads) _ _ _ _ (omega arith) (found .search .ensures) (turn .loop .inv .3) (c .before .enum-told .given .1))
+unfolding onward
+returns-2 c = rw (c .trip-of2 .ensures) (rw (c .before .enum-told .given .1) at (turn-at (c .before .before .before)))
 
 enum-known-way : tie.Need-enum-known-way Inv-loop μ-loop
 enum-known-way c = search needs
@@ -58,32 +67,33 @@ loop-less : tie.Need-loop-less Inv-loop μ-loop
 loop-less c = search needs
 
 loop-again : tie.Need-loop-again Inv-loop μ-loop
+unfolding onward
 loop-again c =
     let found = c .before .before .before in
     let turn = found .before .before in
     let a = turn .before .before .before .args in
     let inside = down-inside (a .head) (now (a .card)) (a .key) (a .stamp) (turn .loop .b) (turn .loop .header) _ _ (found .search .ensures) (c .before .way .given .1) in
-    (search needs, inside .0, inside .1, walk-down (a .head) (now (a .card)) (a .key) (a .stamp) (turn .loop .reads) _ _ _ _ (omega arith) (found .search .ensures) (turn .loop .inv .3) _ (c .before .way .given .1))
+    (search needs, inside .0, inside .1, rw (c .before .way .given .1) at (turn-at found))
 
 enum-told-2 : tie.Need-enum-told-2 Inv-loop μ-loop
 enum-told-2 c = search needs
 
+trip-of-requires-3 : tie.Need-trip-of-requires-3 Inv-loop μ-loop
+trip-of-requires-3 c κs = search needs
+
 returns-3 : tie.Need-returns-3 Inv-loop μ-loop
-returns-3 c =
-    let found = c .before .before in
-    let turn = found .before .before in
-    let a = turn .before .before .before .args in
-    walk-absent (a .head) (now (a .card)) (a .key) (a .stamp) (turn .loop .reads) _ _ _ _ (omega arith) (found .search .ensures) (turn .loop .inv .3) (c .enum-told2 .given .1)
+unfolding onward
+returns-3 c = rw (c .trip-of3 .ensures) (rw (c .before .enum-told2 .given .1) at (turn-at (c .before .before .before)))
 
 enum-known-way-2 : tie.Need-enum-known-way-2 Inv-loop μ-loop
 enum-known-way-2 c = search needs
 
+trip-of-requires-4 : tie.Need-trip-of-requires-4 Inv-loop μ-loop
+trip-of-requires-4 c κs = search needs
+
 returns-4 : tie.Need-returns-4 Inv-loop μ-loop
-returns-4 c =
-    let found = c .before .before .before in
-    let turn = found .before .before in
-    let a = turn .before .before .before .args in
-    walk-copy (a .head) (now (a .card)) (a .key) (a .stamp) (turn .loop .reads) _ _ _ _ (omega arith) (found .search .ensures) (turn .loop .inv .3) _ (c .before .way2 .given .1)
+unfolding onward
+returns-4 c = rw (c .trip-of4 .ensures) (rw (c .before .before .way2 .given .1) at (turn-at (c .before .before .before .before)))
 
 pub descend-spec : {M : Type 1} → statement M
 descend-spec =
@@ -93,17 +103,19 @@ descend-spec =
     μ-loop
     cast-n
     loop-holds
-    lost-requires
+    trip-of-requires
     returns
     search-requires
-    add-reads
+    add-count
     enum-told
-    lost-requires-2
+    trip-of-requires-2
     returns-2
     enum-known-way
     loop-less
     loop-again
     enum-told-2
+    trip-of-requires-3
     returns-3
     enum-known-way-2
+    trip-of-requires-4
     returns-4)

@@ -13,11 +13,11 @@ find-root-requires c κs = search needs
 enum-known-found : tie.Need-enum-known-found
 enum-known-found c = search needs
 
-lost-requires : tie.Need-lost-requires
-lost-requires c κs = search needs
+trip-of-requires : tie.Need-trip-of-requires
+trip-of-requires c κs = search needs
 
 returns : tie.Need-returns
-returns c = rw (c .lost .ensures, ← c .before .before .find-root .ensures) (no-root _ _ _ _ _ (c .before .match .keys2))
+returns c = rw (c .trip-of .ensures, ← c .before .before .find-root .ensures) (no-root _ _ _ _ _ (c .before .match .keys2))
 
 descend-requires : tie.Need-descend-requires
 descend-requires c κs =
@@ -33,4 +33,4 @@ returns-2 c = rw (← c .before .before .before .before .find-root .ensures, c .
 pub walk-spec : {M : Type 1} → statement M
 walk-spec =
     tie.close
-    (tie.spec find-root-requires enum-known-found lost-requires returns descend-requires returns-2)
+    (tie.spec find-root-requires enum-known-found trip-of-requires returns descend-requires returns-2)

@@ -21,7 +21,8 @@ returns c =
     let third = c .before .before in
     let second = third .before .before in
     let first = second .before .before in
-    rw (← first .in-range .ensures, second .before .if1 .taken, ← second .in-range2 .ensures, third .before .if2 .taken, ← third .in-range3 .ensures, c .before .if3 .taken) (c .in-range4 .ensures)
+    rw (← first .in-range .ensures, second .before .if1 .taken, ← second .in-range2 .ensures, third .before .if2 .taken, ← third .in-range3 .ensures)
+    (rw (c .before .if3 .taken) (c .in-range4 .ensures))
 
 returns-2 : tie.Need-returns-2
 unfolding limits

@@ -15,12 +15,18 @@ returns : tie.Need-returns
 returns c =
     let judged = c .before .before in
     let third = judged .before in
-    rw (eq-eqb _ _ (third .before .before .if1 .taken), eq-eqb _ _ (third .before .if2 .taken), eq-eqb _ _ (third .if3 .taken), ← judged .in-limits .ensures, c .before .if4 .taken) (c .has-size .ensures)
+    let kind = eq-eqb _ _ (third .before .before .if1 .taken) in
+    let begin = eq-eqb _ _ (third .before .if2 .taken) in
+    let end = eq-eqb _ _ (third .if3 .taken) in
+    rw (kind, begin, end, ← judged .in-limits .ensures, c .before .if4 .taken) (c .has-size .ensures)
 
 returns-2 : tie.Need-returns-2
 returns-2 c =
     let third = c .before .before in
-    rw (eq-eqb _ _ (third .before .before .if1 .taken), eq-eqb _ _ (third .before .if2 .taken), eq-eqb _ _ (third .if3 .taken), ← c .before .in-limits .ensures, c .if4 .left)
+    let kind = eq-eqb _ _ (third .before .before .if1 .taken) in
+    let begin = eq-eqb _ _ (third .before .if2 .taken) in
+    let end = eq-eqb _ _ (third .if3 .taken) in
+    rw (kind, begin, end, ← c .before .in-limits .ensures, c .if4 .left)
 
 returns-3 : tie.Need-returns-3
 returns-3 c = rw (eq-eqb _ _ (c .before .before .if1 .taken), eq-eqb _ _ (c .before .if2 .taken), ne-eqb _ _ (c .if3 .left))

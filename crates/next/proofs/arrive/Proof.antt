@@ -1,0 +1,38 @@
+use denote.Ref.{now}
+use Rattle.laws.proofs.Heads.{bucket-fits}
+use Rattle.scan.specs.Next.{legOf}
+use Rattle.scan.proofs.Parts.{part-sectors}
+use Rattle.next.proofs.Rounds.{none-stands}
+use borrow.Author.Needs.{needs}
+use Rattle.next.proofs.arrive.Statement.{statement}
+use Rattle.next.proofs.arrive.Tie as tie
+
+bucket-part-requires : tie.Need-bucket-part-requires
+bucket-part-requires c κs = search needs
+
+standing-requires : tie.Need-standing-requires
+standing-requires c κs = search needs
+
+enum-known-found : tie.Need-enum-known-found
+enum-known-found c = search needs
+
+returns : tie.Need-returns
+returns c =
+    let asked = c .before in
+    let e = asked .before .before .before in
+    let a = e .args in
+    let fits = bucket-fits (a .head) (now (a .card)) (a .b) (e .pre .0 .long) (e .pre .1 .0) (e .pre .1 .1) in
+    rw (← part-sectors (a .head) (now (a .card)) (a .b) fits, ← asked .before .bucket-part .ensures .0, ← asked .standing .ensures) (none-stands _ _ (c .match .keys2))
+
+returns-2 : tie.Need-returns-2
+unfolding legOf
+returns-2 c =
+    let asked = c .before .before .before in
+    let e = asked .before .before .before in
+    let a = e .args in
+    let fits = bucket-fits (a .head) (now (a .card)) (a .b) (e .pre .0 .long) (e .pre .1 .0) (e .pre .1 .1) in
+    rw (← part-sectors (a .head) (now (a .card)) (a .b) fits, ← asked .before .bucket-part .ensures .0, ← asked .standing .ensures, c .before .found .given .1)
+
+pub arrive-spec : {M : Type 1} → statement M
+arrive-spec =
+    tie.close (tie.spec bucket-part-requires standing-requires enum-known-found returns returns-2)

@@ -1,0 +1,104 @@
+use Prim.Native.Nat.{_≤_, _+_, _-_}
+use mathlib.Core.Path.{_≡_, _∙_}
+use mathlib.Core.List.{_∷_}
+use native.Mathlib.Nat.{sub-zero}
+use native.Mathlib.Omega.{arith}
+use lib.ListN.{length-take, length-drop}
+use denote.Ref.{now}
+use Rattle.scan.specs.declared.Found.the-variants.{Nothing}
+use Rattle.scan.specs.Scan.{sectors}
+use Rattle.scan.specs.Next.{standIn}
+use Rattle.scan.proofs.Loops.{sectors-turn, sectors-end, stand-other}
+use borrow.Author.Needs.{needs}
+use Rattle.next.proofs.asks.standing.Statement.{statement}
+use Rattle.next.proofs.asks.standing.Tie as tie
+
+abbrev Inv-loop : tie.InvT-loop
+Inv-loop part n m k t best₀ i₀ best i = (i ≤ m) × (standIn k t (sectors n part i (m - i)) best ≡ standIn k t (sectors n part 0 m) Nothing)
+
+abbrev μ-loop : tie.MeasureT-loop
+μ-loop part n m k t best₀ i₀ best i = m - i
+
+loop-holds : tie.Need-loop-holds Inv-loop μ-loop
+loop-holds c = (search needs, rw sub-zero)
+
+mul-a : tie.Need-mul-a Inv-loop μ-loop
+mul-a c = search needs
+
+add-e : tie.Need-add-e Inv-loop μ-loop
+add-e c = search needs
+
+sub-decode : tie.Need-sub-decode Inv-loop μ-loop
+sub-decode c = search needs
+
+part-decode-start : tie.Need-part-decode-start Inv-loop μ-loop
+part-decode-start c = search needs
+
+part-decode-end : tie.Need-part-decode-end Inv-loop μ-loop
+part-decode-end c = search needs
+
+decode-requires : tie.Need-decode-requires Inv-loop μ-loop
+decode-requires c κs = simp (length-take, length-drop) (omega arith)
+
+enum-known-s : tie.Need-enum-known-s Inv-loop μ-loop
+enum-known-s c = search needs
+
+-- what the sector read says of the whole pass
+turn-at : (q : tie.After-decode Inv-loop μ-loop) →
+    let turn = q .before .before in
+    let a = turn .before .before .before .args in
+    let i = turn .before .loop .i in
+    standIn (a .k) (a .t) (q .decode .result ∷ sectors (a .n) (now (a .part)) (i + 1) (a .m - (i + 1))) (turn .before .loop .best)
+    ≡ standIn (a .k) (a .t) (sectors (a .n) (now (a .part)) 0 (a .m)) Nothing
+turn-at q =
+    let turn = q .before .before in
+    let a = turn .before .before .before .args in
+    sectors-turn (λ l. standIn (a .k) (a .t) l (turn .before .loop .best)) (a .n) (a .m) (turn .before .loop .i) (now (a .part)) _ _
+    (turn .loop-test .taken) (q .decode .ensures) (turn .before .loop .inv .1)
+
+returns : tie.Need-returns Inv-loop μ-loop
+returns c = stand-other _ _ _ _ _ (c .match .keys2) ∙ turn-at (c .before)
+
+add-pick-next : tie.Need-add-pick-next Inv-loop μ-loop
+add-pick-next c = search needs
+
+pick-next-requires : tie.Need-pick-next-requires Inv-loop μ-loop
+pick-next-requires c κs = search needs
+
+add-i : tie.Need-add-i Inv-loop μ-loop
+add-i c = search needs
+
+loop-less : tie.Need-loop-less Inv-loop μ-loop
+loop-less c = search needs
+
+loop-again : tie.Need-loop-again Inv-loop μ-loop
+unfolding standIn
+loop-again c = (search needs, rw (c .pick-next .ensures) (rw (c .before .before .s .given .1) at (turn-at (c .before .before .before .before))))
+
+returns-2 : tie.Need-returns-2 Inv-loop μ-loop
+unfolding standIn
+returns-2 c =
+    let a = c .before .before .before .args in
+    rw (sectors-end (a .n) (a .m) (c .before .loop .i) (now (a .part)) (c .loop-test .left)) at (c .before .loop .inv .1)
+
+pub standing-spec : {M : Type 1} → statement M
+standing-spec =
+    tie.close
+    (tie.spec
+    Inv-loop
+    μ-loop
+    loop-holds
+    mul-a
+    add-e
+    sub-decode
+    part-decode-start
+    part-decode-end
+    decode-requires
+    enum-known-s
+    returns
+    add-pick-next
+    pick-next-requires
+    add-i
+    loop-less
+    loop-again
+    returns-2)

@@ -1,0 +1,76 @@
+use mathlib.Core.Path.{sym, _∙_}
+use denote.Ref.{now}
+use Rattle.bucket.proofs.Room.{shape-of}
+use Rattle.walk.proofs.Walks.{broken-none, sound-some}
+use Rattle.next.proofs.Rounds.{next-broken, next-lost, next-rounds}
+use borrow.Author.Needs.{needs}
+use Rattle.next.proofs.next.Statement.{statement}
+use Rattle.next.proofs.next.Tie as tie
+
+read-head-requires : tie.Need-read-head-requires
+read-head-requires c κs = search needs
+
+enum-known-layout : tie.Need-enum-known-layout
+enum-known-layout c = search needs
+
+enum-told : tie.Need-enum-told
+enum-told c = search needs
+
+refusal-requires : tie.Need-refusal-requires
+refusal-requires c κs = search needs
+
+returns : tie.Need-returns
+returns c =
+    let read = c .before .before .before in
+    c .refusal .ensures ∙ next-broken (now (read .before .before .args .card)) _ _ (broken-none _ (sym (read .read-head .ensures) ∙ c .before .enum-told .given .1))
+
+find-root-requires : tie.Need-find-root-requires
+find-root-requires c κs =
+    let sound = c .before in
+    let read = sound .before .before in
+    shape-of _ _ (sound-some _ _ (sym (read .read-head .ensures) ∙ sound .layout .given .1))
+
+enum-known-found : tie.Need-enum-known-found
+enum-known-found c = search needs
+
+refusal-requires-2 : tie.Need-refusal-requires-2
+refusal-requires-2 c κs = search needs
+
+returns-2 : tie.Need-returns-2
+returns-2 c =
+    let rooted = c .before .before in
+    let sound = rooted .before .before in
+    let read = sound .before .before in
+    let head = sound-some _ _ (sym (read .read-head .ensures) ∙ sound .layout .given .1) in
+    c .refusal2 .ensures ∙ next-lost (now (read .before .before .args .card)) (read .before .before .args .bib) _ _ head _ (rooted .find-root .ensures) (c .before .match2 .keys2)
+
+walk-on-requires : tie.Need-walk-on-requires
+walk-on-requires c κs =
+    let rooted = c .before .before .before in
+    let sound = rooted .before .before in
+    let read = sound .before .before in
+    let head = sound-some _ _ (sym (read .read-head .ensures) ∙ sound .layout .given .1) in
+    (shape-of _ _ head, sym (rooted .find-root .ensures) ∙ c .before .found .given .1)
+
+returns-3 : tie.Need-returns-3
+returns-3 c =
+    let sound = c .before .before .before .before .before .before in
+    let read = sound .before .before in
+    let head = sound-some _ _ (sym (read .read-head .ensures) ∙ sound .layout .given .1) in
+    rw (c .walk-on .ensures) (next-rounds (now (read .before .before .args .card)) _ _ _ head)
+
+pub next-spec : {M : Type 1} → statement M
+next-spec =
+    tie.close
+    (tie.spec
+    read-head-requires
+    enum-known-layout
+    enum-told
+    refusal-requires
+    returns
+    find-root-requires
+    enum-known-found
+    refusal-requires-2
+    returns-2
+    walk-on-requires
+    returns-3)

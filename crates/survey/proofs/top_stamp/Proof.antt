@@ -1,0 +1,73 @@
+-- `survey::top_stamp` finds a bucket's largest stamp. The larger of what was found and what is left is that of the whole.
+use borrow.Author.Needs.{needs}
+use mathlib.Core.Path.{_≡_}
+use Prim.Native.Nat.{_-_, _≤_}
+use Rattle.rules.specs.Write.{topStamp}
+use Prim.Native.Nat.{max}
+use Rattle.survey.proofs.Stamps.{stamp-turn, stamp-end, stamp-start}
+use Rattle.survey.proofs.top_stamp.Statement.{statement}
+use Rattle.survey.proofs.top_stamp.Tie as tie
+
+abbrev Inv-loop : tie.InvT-loop
+Inv-loop part m top₀ i₀ top i = (i ≤ m) × (max top (topStamp part i (m - i)) ≡ topStamp part 0 m)
+
+abbrev μ-loop : tie.MeasureT-loop
+μ-loop part m top₀ i₀ top i = m - i
+
+loop-holds : tie.Need-loop-holds Inv-loop μ-loop
+loop-holds c = (search needs, stamp-start (c .before .args .part .now) (c .before .args .m))
+
+mul-a : tie.Need-mul-a Inv-loop μ-loop
+mul-a c = search needs
+
+add-stamp-of : tie.Need-add-stamp-of Inv-loop μ-loop
+add-stamp-of c = search needs
+
+sub-stamp-of : tie.Need-sub-stamp-of Inv-loop μ-loop
+sub-stamp-of c = search needs
+
+part-stamp-of-start : tie.Need-part-stamp-of-start Inv-loop μ-loop
+part-stamp-of-start c = search needs
+
+part-stamp-of-end : tie.Need-part-stamp-of-end Inv-loop μ-loop
+part-stamp-of-end c = search needs
+
+stamp-of-requires : tie.Need-stamp-of-requires Inv-loop μ-loop
+stamp-of-requires c κs = search needs
+
+later-requires : tie.Need-later-requires Inv-loop μ-loop
+later-requires c κs = search needs
+
+add-i : tie.Need-add-i Inv-loop μ-loop
+add-i c = search needs
+
+loop-less : tie.Need-loop-less Inv-loop μ-loop
+loop-less c = search needs
+
+loop-again : tie.Need-loop-again Inv-loop μ-loop
+loop-again c =
+    let l = c .before .before .before .before .loop in
+    let o = c .before .before .before .before .before .before in
+    (search needs, stamp-turn (o .args .part .now) (o .args .m) (l .i) (l .top) _ _ _ (search needs) (l .inv .1) (c .before .stamp-of .ensures) (c .later .ensures))
+
+returns : tie.Need-returns Inv-loop μ-loop
+returns c = let l = c .before .loop in let o = c .before .before .before in stamp-end (o .args .part .now) (o .args .m) (l .i) (l .top) _ (search needs) (l .inv .1)
+
+pub top-stamp-spec : {M : Type 1} → statement M
+top-stamp-spec =
+    tie.close
+    (tie.spec
+    Inv-loop
+    μ-loop
+    loop-holds
+    mul-a
+    add-stamp-of
+    sub-stamp-of
+    part-stamp-of-start
+    part-stamp-of-end
+    stamp-of-requires
+    later-requires
+    add-i
+    loop-less
+    loop-again
+    returns)

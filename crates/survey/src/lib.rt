@@ -1,0 +1,72 @@
+// One pass over the bucket area: the largest stamp, and the highest bucket with a nonzero byte.
+use rules::Head;
+ghost use mathlib.Core.Path.{_≡_};
+ghost use Prim.Native.Nat.{_+_, _*_, _≤_, max};
+ghost use lib.ListN.{length};
+ghost use Rattle.rules.specs.Write.{stampOf, topStamp};
+ghost use Rattle.bucket.specs.Shapes.{Shape};
+ghost use Rattle.survey.specs.Survey.{surveyOf};
+
+// What a write has to know of the whole card.
+pub struct Area {
+    pub stamp: u32,
+    pub used: usize,
+}
+
+fn later(a: u32, b: u32) -> u32
+    ensures { λ r. ⌜ r ≡ max a b ⌝ }
+{
+    if a < b {
+        return b;
+    }
+    a
+}
+
+// The stamp field of a sector, where its kind is not zero.
+fn stamp_of(s: &[u8]) -> u32
+    requires { ⌜ length (now s) ≡ 16 ⌝ }
+    ensures { λ r. ⌜ r ≡ stampOf (now (s .entry)) ⌝ }
+{
+    if s[0] == 0 {
+        return 0;
+    }
+    sector::read_word(s, 8)
+}
+
+// The largest stamp of a bucket's m sectors.
+fn top_stamp(part: &[u8], m: usize) -> u32
+    requires { ⌜ 16 * m ≤ length (now part) ⌝ }
+    ensures { λ r. ⌜ r ≡ topStamp (now (part .entry)) 0 m ⌝ }
+{
+    let mut top: u32 = 0;
+    let mut i = 0;
+    while i < m {
+        let a = 16 * i;
+        let s = stamp_of(&part[a..a + 16]);
+        top = later(top, s);
+        i += 1;
+    }
+    top
+}
+
+// A bucket of zeros is passed over: it has neither a stamp nor a nonzero byte.
+pub fn survey(card: &[u8], head: Head) -> Area
+    requires { ⌜ Shape head (now card) ⌝ }
+    ensures { λ r. ⌜ r ≡ surveyOf head (now (card .entry)) (head .n) ⌝ }
+{
+    let n = head.n;
+    let m = head.m;
+    let mut stamp: u32 = 0;
+    let mut used = 0;
+    let mut b = 0;
+    while b < n {
+        b += 1;
+        let part = bucket::bucket_part(card, head, b as u32);
+        if sector::all_zero(part) {
+            continue;
+        }
+        stamp = later(stamp, top_stamp(part, m));
+        used = b;
+    }
+    Area { stamp, used }
+}

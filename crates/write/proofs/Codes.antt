@@ -1,0 +1,117 @@
+-- The refusals of a write in their order, as its functions give them.
+use mathlib.Core.Path.{_≡_, refl, ap, sym, _∙_}
+use mathlib.Core.Logic.{_⊎_, inl, inr, ⊎-elim}
+use mathlib.Core.Bool.{Bool, true, false, not}
+use mathlib.Core.Option.{Option, none, some}
+use mathlib.Core.List.{List, []}
+use Prim.Native.Nat.{ℕ, zero, suc, _≤_, _<_}
+use native.Mathlib.Omega.{arith}
+use lib.Dec.{leb, eqb}
+use borrow.Author.Tests.{eq-eqb, ne-eqb, le-leb, lt-leb}
+use Rattle.rules.specs.declared.Entry.{Entry}
+use Rattle.rules.specs.declared.Head.{Head}
+use Rattle.rules.specs.declared.Answer.{Answer}
+use Rattle.rules.specs.Plain.{if, _&_, isNone}
+use Rattle.rules.specs.Sector.{isPost}
+use Rattle.rules.specs.Layout.{headOf}
+use Rattle.rules.specs.Walk.{Visit, walk, standing, standsOn, copyOf, left, dataOf}
+use Rattle.rules.specs.Answers.{refused}
+use Rattle.rules.specs.Write.{Plan, refuse, accept, refuseIf, planAnswer, planCard, planOn, planAt, planFor, plan, stampOn, latest}
+use Rattle.laws.proofs.Tools.{bool-cases}
+use Rattle.scan.specs.declared.Found.{Found}
+use Rattle.scan.specs.declared.Found.the-variants.{Damage, Nothing, Hit}
+use Rattle.scan.proofs.Picks.{hit}
+use Rattle.trail.proofs.Tracks.{trackIn}
+use Rattle.climb.specs.Levels.{upward}
+use Rattle.write.specs.Plans.{codeOf, pathOr, walked, Came}
+
+-- what an answer and a card owe to a plan
+pub record Follows (p : Plan) (card : List ℕ) (r : Answer) (new : List ℕ) : Type 0 where
+  pub answer : r ≡ planAnswer p
+  pub bytes : new ≡ planCard card p
+
+pub refuses : (p : Plan) (card : List ℕ) (r : Answer) (c : ℕ) → p ≡ refuse c → r ≡ refused c → Follows p card r card
+unfolding planAnswer planCard
+refuses p card r c q e = record { answer = e ∙ ap planAnswer (sym q); bytes = ap (planCard card) (sym q) }
+
+pub accepts : (p : Plan) (card new : List ℕ) (r : Answer) → p ≡ accept new → r ≡ refused 0 → Follows p card r new
+unfolding planAnswer planCard
+accepts p card new r q e = record { answer = e ∙ ap planAnswer (sym q); bytes = ap (planCard card) (sym q) }
+
+pub follows-same : (p q : Plan) (card : List ℕ) (r : Answer) (new : List ℕ) → p ≡ q → Follows q card r new → Follows p card r new
+follows-same p q card r new e f = record { answer = f .answer ∙ ap planAnswer (sym e); bytes = f .bytes ∙ ap (planCard card) (sym e) }
+
+-- a number refuses, 0 goes on
+abbrev coded : ℕ → Plan → Plan
+coded zero p = p
+coded (suc c) p = refuse (suc c)
+
+module _ (e : Entry) (p : Plan) where
+  stand-coded : (cp : Option Entry) → refuseIf (not (isPost e) & isNone (standing cp)) 5 p ≡ coded (codeOf (e .kind) (hit cp)) p
+  unfolding refuseIf isPost isNone standing codeOf hit
+  stand-coded none = ⊎-elim (λ (t : eqb (e .kind) 1 ≡ true). rw t) (λ (t : eqb (e .kind) 1 ≡ false). rw t) (bool-cases (eqb (e .kind) 1))
+  stand-coded (some d) =
+      ⊎-elim (λ (t : eqb (e .kind) 1 ≡ true). rw t)
+      (λ (t : eqb (e .kind) 1 ≡ false). ⊎-elim (λ (u : eqb (d .kind) 1 ≡ true). rw (t, u)) (λ (u : eqb (d .kind) 1 ≡ false). rw (t, u)) (bool-cases (eqb (d .kind) 1)))
+      (bool-cases (eqb (e .kind) 1))
+
+at-coded : (h : Head) (card : List ℕ) (e : Entry) (o : Option (List Visit))
+    → planAt h card e o ≡ coded (codeOf (e .kind) (trackIn (e .key) [] o .found)) (planOn h card e (pathOr o))
+unfolding planAt trackIn codeOf standsOn
+at-coded h card e none = refl
+at-coded h card e (some p) = stand-coded e (planOn h card e p) (copyOf (e .key) (left latest (dataOf p)))
+
+none-code : (kind x : ℕ) → codeOf kind (trackIn x [] none .found) ≡ 4
+unfolding codeOf trackIn
+none-code kind x = refl
+
+four-zero : _≡_ {A = ℕ} 4 0 → ⊥
+four-zero q = omega arith
+
+-- what the walk's end objects to
+module _ (h : Head) (card : List ℕ) (e : Entry) (f : Found) (c : ℕ) (is : f ≡ trackIn (e .key) [] (walk h card latest (e .key)) .found) (says : c ≡ codeOf (e .kind) f) where
+  at-is : planAt h card e (walk h card latest (e .key)) ≡ coded c (planOn h card e (walked h card (e .key)))
+  unfolding walked
+  at-is = at-coded h card e (walk h card latest (e .key)) ∙ ap (λ (n : ℕ). coded n (planOn h card e (walked h card (e .key)))) (sym (says ∙ ap (codeOf (e .kind)) is))
+
+  pub at-refused : (c ≡ 0 → ⊥) → planAt h card e (walk h card latest (e .key)) ≡ refuse c
+  at-refused ne = at-is ∙ go c ne
+    where
+      go : (n : ℕ) → (n ≡ 0 → ⊥) → coded n (planOn h card e (walked h card (e .key))) ≡ refuse n
+      go zero ne = absurd (ne refl)
+      go (suc n) ne = refl
+
+  pub at-goes-on : c ≡ 0 → planAt h card e (walk h card latest (e .key)) ≡ planOn h card e (walked h card (e .key))
+  at-goes-on z = at-is ∙ ap (λ (n : ℕ). coded n (planOn h card e (walked h card (e .key)))) z
+
+  pub at-came : c ≡ 0 → Came h card (e .key)
+  unfolding walked
+  at-came z = go (walk h card latest (e .key)) (sym (says ∙ ap (codeOf (e .kind)) is) ∙ z)
+    where
+      go : (o : Option (List Visit)) → codeOf (e .kind) (trackIn (e .key) [] o .found) ≡ 0 → o ≡ some (pathOr o)
+      go none q = absurd (four-zero (sym (none-code (e .kind) (e .key)) ∙ q))
+      go (some p) q = refl
+
+-- the order of a write's refusals
+module _ (card : List ℕ) (e : Entry) where
+  pub no-head : headOf card ≡ none → plan card e ≡ refuse 1
+  unfolding plan planFor
+  no-head q = rw q
+
+  module _ (h : Head) (q : headOf card ≡ some h) where
+    pub no-bib : e .key ≡ 0 → plan card e ≡ refuse 2
+    unfolding plan planFor refuseIf
+    no-bib z = rw (q, eq-eqb (e .key) 0 z)
+
+    pub stale : (e .key ≡ 0 → ⊥) → e .stamp ≤ stampOn h card → plan card e ≡ refuse 3
+    unfolding plan planFor refuseIf
+    stale ne le = rw (q, ne-eqb (e .key) 0 ne, le-leb (e .stamp) (stampOn h card) le)
+
+    pub goes-in : (e .key ≡ 0 → ⊥) → stampOn h card < e .stamp → plan card e ≡ planAt h card e (walk h card latest (e .key))
+    unfolding plan planFor refuseIf
+    goes-in ne gt = rw (q, ne-eqb (e .key) 0 ne, lt-leb (e .stamp) (stampOn h card) gt)
+
+-- the track of a walk that came to data is its path
+pub came-path : (h : Head) (card : List ℕ) (x : ℕ) → Came h card x → trackIn x [] (walk h card latest x) .path ≡ upward (walked h card x) []
+unfolding trackIn
+came-path h card x q = ap (λ (o : Option (List Visit)). trackIn x [] o .path) q

@@ -1,0 +1,179 @@
+-- A write's plan, by what the count foretells: too full, or the card that the way up leaves.
+use mathlib.Core.Path.{_≡_, refl, ap, ap₂, sym, _∙_, subst}
+use mathlib.Core.Logic.{_⊎_, inl, inr, ⊎-elim}
+use mathlib.Core.Bool.{Bool, true, false, not}
+use mathlib.Core.Option.{Option, none, some}
+use mathlib.Core.List.{List, [], _∷_, _++_}
+use Prim.Native.Nat.{ℕ, zero, suc, _+_, _-_, _*_, _≤_, _<_}
+use native.Mathlib.Omega.{arith}
+use lib.Dec.{leb, ltb, eqb}
+use lib.ListN.{length}
+use borrow.Author.Tests.{lt-ltb, le-ltb, ltb-false, eq-eqb, ne-eqb}
+use Rattle.rules.specs.declared.Entry.{Entry}
+use Rattle.rules.specs.declared.Head.{Head}
+use Rattle.rules.specs.Plain.{if, _&_, _or_}
+use Rattle.rules.specs.Layout.{headOf}
+use Rattle.rules.specs.Bucket.{bucket, log, logBlanks}
+use Rattle.rules.specs.Walk.{Visit, walk, pathIn}
+use Rattle.rules.specs.Rewrite.{Rise, oneBucket}
+use Rattle.rules.specs.Write.{Plan, refuse, accept, refuseIf, climb, rooted, logged, logFull, checked, finish, planOn, topUsed, latest}
+use Rattle.laws.proofs.Tools.{none-some, le-or-lt, eq-or-ne}
+use Rattle.laws.proofs.Run.{blanks-agree}
+use Rattle.laws.proofs.Paths.{Along, walk-reads}
+use Rattle.laws.proofs.Used.{used-top, top-raw, used-within}
+use Rattle.laws.proofs.AsMet.{front-met}
+use Rattle.laws.proofs.Fresh.{rooted-fresh}
+use Rattle.bucket.specs.Shapes.{Shape}
+use Rattle.bucket.proofs.Room.{shape-of}
+use Rattle.climb.specs.Levels.{entriesOn, orEmpty, risen, riseOn, topped, Tally, tally, countOn, freshOver, isOpen, needsOf, upward, Read, AllRead, AllBelow, Ready}
+use Rattle.scan.specs.Look.{logOf}
+use Rattle.level.specs.Level.{usedOf}
+use Rattle.climb.proofs.Climbing.{rise-climb, foretells, tallyOf}
+use Rattle.climb.proofs.Laying.{log-reads}
+use Rattle.climb.proofs.Counting.{up-length}
+
+-- a root's fresh buckets are those foretold
+top-fresh : (h : Head) (s : ℕ) (hd : List Entry) (r : Rise) → rooted h s hd r .fresh ≡ freshOver hd (r .fresh)
+unfolding rooted logged oneBucket freshOver
+top-fresh h s [] r = refl
+top-fresh h s (e ∷ []) r = refl
+top-fresh h s (e ∷ d ∷ es) r = refl
+
+over-more : (hd : List Entry) (f : ℕ) → f ≤ freshOver hd f
+unfolding freshOver
+over-more [] f = omega arith
+over-more (e ∷ []) f = omega arith
+over-more (e ∷ d ∷ es) f = omega arith
+
+log-open : (h : Head) (card : List ℕ) (hd : List Entry) → logFull h card hd ≡ (isOpen hd & eqb (length (logBlanks h card)) 0)
+unfolding logFull isOpen
+log-open h card [] = refl
+log-open h card (e ∷ es) = refl
+
+-- the buckets of a path that is read, in the order of the way up
+reads-up : (h : Head) (card : List ℕ) (p : List Visit) (above : List ℕ) → Along (λ v. bucket h card (v .number) ≡ some (v .entries)) p → AllRead h card above
+    → AllRead h card (upward p above)
+unfolding upward entriesOn
+reads-up h card [] above a r = r
+reads-up h card (v ∷ p) above a r = reads-up h card p (v .number ∷ above) (a .1) (a .0 ∙ ap some (sym (ap orEmpty (a .0))), r)
+
+below-up : (h : Head) (card : List ℕ) (f : ℕ) (p : List Visit) (above : List ℕ) → Along (λ v. v .number < f) p → AllBelow f above → AllBelow f (upward p above)
+unfolding upward
+below-up h card f [] above a r = r
+below-up h card f (v ∷ p) above a r = below-up h card f p (v .number ∷ above) (a .1) (a .0, r)
+
+along-to : (P Q : Visit → Type 0) → ((v : Visit) → P v → Q v) → (p : List Visit) → Along P p → Along Q p
+along-to P Q f [] a = tt
+along-to P Q f (v ∷ p) a = (f v (a .0), along-to P Q f p (a .1))
+
+none-path : (rd : ℕ → Option (List Entry)) (t x f : ℕ) → pathIn rd t x f none ≡ none
+unfolding pathIn
+none-path rd t x f = refl
+
+pub walk-log : (h : Head) (card : List ℕ) (t x : ℕ) (p : List Visit) → walk h card t x ≡ some p → (es : List Entry) × (log h card ≡ some es)
+unfolding walk
+walk-log h card t x p w = go (log h card) w
+  where
+    go : (l : Option (List Entry)) → pathIn (bucket h card) t x (h .n) l ≡ some p → (es : List Entry) × (l ≡ some es)
+    go none q = absurd (none-some (sym (none-path (bucket h card) t x (h .n)) ∙ q))
+    go (some es) q = (es, refl)
+
+module _ (h : Head) (card : List ℕ) (hq : headOf card ≡ some h) (e : Entry) (p : List Visit) (w : walk h card latest (e .key) ≡ some p) where
+  abbrev first : ℕ
+  first = topUsed h card (h .n) + 1
+
+  abbrev up : Rise
+  up = climb h (e .stamp) p (risen (e ∷ []) first card)
+
+  abbrev pub counted : Tally
+  counted = countOn h (e .stamp) card (upward p []) (tally (e ∷ []) first)
+
+  abbrev pub full : Bool
+  full = ltb (h .n + 1) (needsOf counted .fresh) or (needsOf counted .root & eqb (length (logBlanks h card)) 0)
+
+  pub start-ready : Ready h card (upward p []) first
+  start-ready =
+      let sh = shape-of card h hq in
+      let rd = walk-reads h card latest (e .key) p w in
+      record {
+        shape = sh;
+        reads = reads-up h card p [] rd tt;
+        below = below-up h card first p [] (along-to _ _ (λ v q. let k = used-top h card (v .number) (v .entries) (sh .long) q in omega arith) p rd) tt;
+        least = omega arith;
+        free = λ c a b. top-raw h card c (omega arith) b;
+        logs = walk-log h card latest (e .key) p w;
+      }
+
+  same-blanks : up .fresh ≤ h .n + 1 → logBlanks h (up .card) ≡ logBlanks h card
+  unfolding logBlanks
+  same-blanks cap = blanks-agree (up .card) card 1 (h .n) (λ j a b. front-met h card hq latest (e .key) [] p w (e .stamp) (e ∷ []) cap j (omega arith))
+
+  -- the rule's test is the count's
+  tests : (ltb (h .n + 1) (rooted h (e .stamp) (up .hand) up .fresh) or logFull h (up .card) (up .hand)) ≡ full
+  unfolding needsOf
+  tests =
+      let t = rooted h (e .stamp) (up .hand) up .fresh in
+      let more = rooted-fresh h (e .stamp) (up .hand) up in
+      let is = top-fresh h (e .stamp) (up .hand) up in
+      ⊎-elim
+      (λ (q : counted ≡ tallyOf up).
+      let f : needsOf counted .fresh ≡ t = ap (λ (y : Tally). freshOver (y .hand) (y .fresh)) q ∙ sym is in
+      let o : needsOf counted .root ≡ isOpen (up .hand) = ap (λ (y : Tally). isOpen (y .hand)) q in
+      ⊎-elim
+      (λ (le : t ≤ h .n + 1).
+      let bl = same-blanks (omega arith) in
+      rw (f, o, le-ltb (h .n + 1) t le, log-open h (up .card) (up .hand), bl))
+      (λ (gt : h .n + 1 < t). rw (f, lt-ltb (h .n + 1) t gt))
+      (le-or-lt t (h .n + 1)))
+      (λ (q : (h .n + 1 < up .fresh) × (h .n + 1 < counted .fresh)).
+      let k = over-more (counted .hand) (counted .fresh) in
+      rw (lt-ltb (h .n + 1) t (omega (arith, q .0)), lt-ltb (h .n + 1) (needsOf counted .fresh) (omega (arith, q .1))))
+      (foretells h card hq latest (e .key) (e .stamp) (e ∷ []) [] p w)
+
+  plan-is : planOn h card e p ≡ refuseIf full 6 (accept (rooted h (e .stamp) (up .hand) up .card))
+  unfolding planOn finish checked
+  plan-is = ap (λ (b : Bool). refuseIf b 6 (accept (rooted h (e .stamp) (up .hand) up .card))) tests
+
+  pub plan-full : full ≡ true → planOn h card e p ≡ refuse 6
+  unfolding refuseIf
+  plan-full q = plan-is ∙ ap (λ (b : Bool). refuseIf b 6 (accept (rooted h (e .stamp) (up .hand) up .card))) q
+
+  abbrev pub top : Rise
+  top = topped h (e .stamp) (riseOn h (e .stamp) (upward p []) (risen (e ∷ []) first card))
+
+  within : full ≡ false → rooted h (e .stamp) (up .hand) up .fresh ≤ h .n + 1
+  within q = ltb-false (h .n + 1) _ (first-false _ _ (tests ∙ q))
+    where
+      first-false : (a b : Bool) → (a or b) ≡ false → a ≡ false
+      first-false true b z = z
+      first-false false b z = refl
+
+  top-is : full ≡ false → top ≡ rooted h (e .stamp) (up .hand) up
+  unfolding topped
+  top-is q =
+      let more = rooted-fresh h (e .stamp) (up .hand) up in
+      let lim = within q in
+      ap (λ (r : Rise). rooted h (e .stamp) (r .hand) r) (rise-climb h card hq latest (e .key) (e .stamp) (e ∷ []) [] p w (omega arith))
+
+  pub plan-room : full ≡ false → planOn h card e p ≡ accept (top .card)
+  unfolding refuseIf
+  plan-room q =
+      plan-is ∙ ap (λ (b : Bool). refuseIf b 6 (accept (rooted h (e .stamp) (up .hand) up .card))) q
+      ∙ ap (λ (r : Rise). accept (r .card)) (sym (top-is q))
+
+  pub top-within : full ≡ false → top .fresh ≤ h .n + 1
+  top-within q = subst (λ (r : Rise). r .fresh ≤ h .n + 1) (sym (top-is q)) (within q)
+
+none-left : (a n : ℕ) → a ≤ n → eqb a n ≡ eqb (n - a) 0
+none-left a n le =
+    ⊎-elim (λ (q : a ≡ n). let z : n - a ≡ 0 = omega arith in eq-eqb a n q ∙ sym (eq-eqb (n - a) 0 z))
+    (λ (q : a ≡ n → ⊥). ne-eqb a n q ∙ sym (ne-eqb (n - a) 0 (λ (z : n - a ≡ 0). q (omega arith))))
+    (eq-or-ne a n)
+
+-- a log whose every sector is written has no blank
+pub log-none : (h : Head) (card : List ℕ) (es : List Entry) (u : ℕ) → Shape h card → log h card ≡ some es → u ≡ usedOf 0 (logOf h card) 0 (h .n)
+    → eqb u (h .n) ≡ eqb (length (logBlanks h card)) 0
+log-none h card es u sh q e =
+    let lg = log-reads h card es sh q in
+    let n : length (logBlanks h card) ≡ h .n - lg .count = ap length (lg .blank) ∙ up-length _ _ in
+    rw (n, e, lg .used) (none-left (lg .count) (h .n) (lg .most))

@@ -1,0 +1,109 @@
+-- `write::enter` follows the rule's plan for an entry.
+use borrow.Author.Needs.{needs}
+use mathlib.Core.Path.{ap, sym, _∙_}
+use native.Mathlib.Omega.{arith}
+use Rattle.rules.specs.Write.{plan, stampOn}
+use Rattle.bucket.proofs.Room.{shape-of}
+use Rattle.survey.specs.Survey.{surveyOf}
+use Rattle.survey.specs.declared.Area.{Area}
+use Rattle.walk.proofs.Walks.{broken-none, sound-some}
+use Rattle.write.proofs.Codes.{refuses, follows-same, no-head, no-bib, stale, goes-in}
+use Rattle.write.proofs.enter.Statement.{statement}
+use Rattle.write.proofs.enter.Tie as tie
+
+read-head-requires : tie.Need-read-head-requires
+read-head-requires c κs = search needs
+
+enum-known-layout : tie.Need-enum-known-layout
+enum-known-layout c = search needs
+
+enum-told : tie.Need-enum-told
+enum-told c = search needs
+
+refusal-requires : tie.Need-refusal-requires
+refusal-requires c κs = search needs
+
+same-length : tie.Need-same-length
+same-length c = search needs
+
+returns : tie.Need-returns
+returns c =
+    let o = c .before .before .before .before .before .before in
+    let none = broken-none _ (sym (c .before .before .before .read-head .ensures) ∙ c .before .enum-told .given .1) in
+    let f = refuses (plan (o .args .card .now) (o .args .e)) (o .args .card .now) _ 1 (no-head (o .args .card .now) (o .args .e) none) (c .refusal .ensures) in
+    (f .answer, f .bytes)
+
+refusal-requires-2 : tie.Need-refusal-requires-2
+refusal-requires-2 c κs = search needs
+
+same-length-2 : tie.Need-same-length-2
+same-length-2 c = search needs
+
+returns-2 : tie.Need-returns-2
+returns-2 c =
+    let o = c .before .before .before .before .before .before .before .before .before in
+    let hq = sound-some _ _ (sym (c .before .before .before .before .before .before .read-head .ensures) ∙ c .before .before .before .before .layout .given .1) in
+    let f = refuses (plan (o .args .card .now) (o .args .e)) (o .args .card .now) _ 2 (no-bib (o .args .card .now) (o .args .e) _ hq (c .before .if1 .taken)) (c .refusal2 .ensures) in
+    (f .answer, f .bytes)
+
+survey-requires : tie.Need-survey-requires
+survey-requires c κs =
+    let o = c .before .before .before .before .before .before .before .before .before in
+    let hq = sound-some _ _ (sym (c .before .before .before .before .before .before .read-head .ensures) ∙ c .before .before .before .before .layout .given .1) in
+    shape-of (o .args .card .now) _ hq
+
+refusal-requires-3 : tie.Need-refusal-requires-3
+refusal-requires-3 c κs = search needs
+
+same-length-3 : tie.Need-same-length-3
+same-length-3 c = search needs
+
+returns-3 : tie.Need-returns-3
+unfolding surveyOf stampOn
+returns-3 c =
+    let o = c .before .before .before .before .before .before .before .before .before .before .before .before .before .before in
+    let hq = sound-some _ _ (sym (c .before .before .before .before .before .before .before .before .before .before .before .read-head .ensures) ∙ c .before .before .before .before .before .before .before .before .before .layout .given .1) in
+    let s = ap (λ (y : Area). y .stamp) (c .before .before .before .before .survey .ensures) in
+    let f = refuses (plan (o .args .card .now) (o .args .e)) (o .args .card .now) _ 3 (stale (o .args .card .now) (o .args .e) _ hq (c .before .before .before .before .before .before .if1 .left) (omega (arith, c .before .if2 .taken))) (c .refusal3 .ensures) in
+    (f .answer, f .bytes)
+
+insert-requires : tie.Need-insert-requires
+unfolding surveyOf
+insert-requires c κs =
+    let o = c .before .before .before .before .before .before .before .before .before .before .before .before .before .before in
+    let hq = sound-some _ _ (sym (c .before .before .before .before .before .before .before .before .before .before .before .read-head .ensures) ∙ c .before .before .before .before .before .before .before .before .before .layout .given .1) in
+    (hq, o .pre, ap (λ (y : Area). y .used) (c .before .before .before .before .survey .ensures))
+
+same-length-4 : tie.Need-same-length-4
+same-length-4 c = search needs
+
+returns-4 : tie.Need-returns-4
+unfolding surveyOf stampOn
+returns-4 c =
+    let o = c .before .before .before .before .before .before .before .before .before .before .before .before .before .before .before .before .before in
+    let hq = sound-some _ _ (sym (c .before .before .before .before .before .before .before .before .before .before .before .before .before .before .read-head .ensures) ∙ c .before .before .before .before .before .before .before .before .before .before .before .before .layout .given .1) in
+    let s = ap (λ (y : Area). y .stamp) (c .before .before .before .before .before .before .before .survey .ensures) in
+    let l = c .before .before .insert .ensures in
+    let f = follows-same _ _ (o .args .card .now) _ _ (goes-in (o .args .card .now) (o .args .e) _ hq (c .before .before .before .before .before .before .before .before .before .if1 .left) (omega (arith, c .before .before .before .before .if2 .left))) (record { answer = l .0; bytes = l .1 }) in
+    (f .answer, f .bytes)
+
+pub enter-spec : {M : Type 1} → statement M
+enter-spec =
+    tie.close
+    (tie.spec
+    read-head-requires
+    enum-known-layout
+    enum-told
+    refusal-requires
+    same-length
+    returns
+    refusal-requires-2
+    same-length-2
+    returns-2
+    survey-requires
+    refusal-requires-3
+    same-length-3
+    returns-3
+    insert-requires
+    same-length-4
+    returns-4)

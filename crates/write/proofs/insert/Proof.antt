@@ -1,0 +1,76 @@
+-- `write::insert` follows the rule's plan from the walk on.
+use borrow.Author.Needs.{needs}
+use mathlib.Core.Path.{ap, _∙_}
+use native.Mathlib.Omega.{arith}
+use Rattle.rules.specs.Walk.{walk}
+use Rattle.rules.specs.Write.{planAt, latest}
+use Rattle.bucket.proofs.Room.{shape-of}
+use Rattle.trail.specs.Trail.{Track}
+use Rattle.trail.proofs.Tracks.{track-walk}
+use Rattle.write.proofs.Codes.{refuses, follows-same, at-refused, at-goes-on, at-came, came-path}
+use Rattle.write.proofs.insert.Statement.{statement}
+use Rattle.write.proofs.insert.Tie as tie
+
+slice-aggregate-walk-down : tie.Need-slice-aggregate-walk-down
+slice-aggregate-walk-down c = search needs
+
+walk-down-requires : tie.Need-walk-down-requires
+walk-down-requires c κs = let o = c .before .before .before in (shape-of (o .args .card .now) (o .args .head) (o .pre .0), search needs)
+
+objection-requires : tie.Need-objection-requires
+objection-requires c κs = search needs
+
+refusal-requires : tie.Need-refusal-requires
+refusal-requires c κs = search needs
+
+same-length : tie.Need-same-length
+same-length c = search needs
+
+returns : tie.Need-returns
+returns c =
+    let o = c .before .before .before .before .before .before .before .before in
+    let lead = c .before .before .before .before .walk-down .ensures in
+    let tw = track-walk (o .args .head) (o .args .card .now) (o .args .e .key) in
+    let is = lead .found ∙ ap (λ (y : Track). y .found) tw in
+    let f = refuses (planAt (o .args .head) (o .args .card .now) (o .args .e) (walk (o .args .head) (o .args .card .now) latest (o .args .e .key))) (o .args .card .now) _ _ (at-refused (o .args .head) (o .args .card .now) (o .args .e) _ _ is (c .before .before .objection .ensures) (c .before .if1 .taken)) (c .refusal .ensures) in
+    (f .answer, f .bytes)
+
+slice-aggregate-lay : tie.Need-slice-aggregate-lay
+slice-aggregate-lay c = search needs
+
+lay-requires : tie.Need-lay-requires
+lay-requires c κs =
+    let o = c .before .before .before .before .before .before .before .before .before in
+    let lead = c .before .before .before .before .before .walk-down .ensures in
+    let tw = track-walk (o .args .head) (o .args .card .now) (o .args .e .key) in
+    let is = lead .found ∙ ap (λ (y : Track). y .found) tw in
+    let came = at-came (o .args .head) (o .args .card .now) (o .args .e) _ _ is (c .before .before .before .objection .ensures) (c .before .before .if1 .left) in
+    ((o .pre .0, came, o .pre .1, o .pre .2), (lead .levels ∙ ap (λ (y : Track). y .path) tw ∙ came-path (o .args .head) (o .args .card .now) (o .args .e .key) came, omega (arith, lead .most, lead .long), lead .long))
+
+same-length-2 : tie.Need-same-length-2
+same-length-2 c = search needs
+
+returns-2 : tie.Need-returns-2
+returns-2 c =
+    let o = c .before .before .before .before .before .before .before .before .before .before .before .before in
+    let lead = c .before .before .before .before .before .before .before .before .walk-down .ensures in
+    let tw = track-walk (o .args .head) (o .args .card .now) (o .args .e .key) in
+    let is = lead .found ∙ ap (λ (y : Track). y .found) tw in
+    let l = c .before .before .lay .ensures in
+    let f = follows-same _ _ (o .args .card .now) _ _ (at-goes-on (o .args .head) (o .args .card .now) (o .args .e) _ _ is (c .before .before .before .before .before .before .objection .ensures) (c .before .before .before .before .before .if1 .left)) (record { answer = l .0; bytes = l .1 }) in
+    (f .answer, f .bytes)
+
+pub insert-spec : {M : Type 1} → statement M
+insert-spec =
+    tie.close
+    (tie.spec
+    slice-aggregate-walk-down
+    walk-down-requires
+    objection-requires
+    refusal-requires
+    same-length
+    returns
+    slice-aggregate-lay
+    lay-requires
+    same-length-2
+    returns-2)

@@ -1,0 +1,53 @@
+-- `write::objection` gives the number of what the walk's end objects to.
+use borrow.Author.Needs.{needs}
+use borrow.Author.Tests.{eq-eqb, ne-eqb}
+use Rattle.write.specs.Plans.{codeOf}
+use Rattle.write.proofs.objection.Statement.{statement}
+use Rattle.write.proofs.objection.Tie as tie
+
+enum-told : tie.Need-enum-told
+enum-told c = search needs
+
+enum-told-2 : tie.Need-enum-told-2
+enum-told-2 c = search needs
+
+returns : tie.Need-returns
+unfolding codeOf
+returns c = rw (c .before .enum-told2 .given .1, eq-eqb _ _ (c .if1 .taken))
+
+enum-known-found : tie.Need-enum-known-found
+enum-known-found c = search needs
+
+returns-2 : tie.Need-returns-2
+unfolding codeOf
+returns-2 c = rw (c .before .before .found .given .1, eq-eqb _ _ (c .if2 .taken))
+
+returns-3 : tie.Need-returns-3
+unfolding codeOf
+returns-3 c = rw (c .before .before .before .before .found .given .1, ne-eqb _ _ (c .before .before .if2 .left), eq-eqb _ _ (c .if3 .taken))
+
+returns-4 : tie.Need-returns-4
+unfolding codeOf
+returns-4 c = rw (c .enum-told .given .1)
+
+returns-5 : tie.Need-returns-5
+unfolding codeOf
+returns-5 c = rw (c .before .enum-told2 .given .1, ne-eqb _ _ (c .if1 .left))
+
+returns-6 : tie.Need-returns-6
+unfolding codeOf
+returns-6 c = rw (c .before .before .before .before .found .given .1, ne-eqb _ _ (c .before .before .if2 .left), ne-eqb _ _ (c .if3 .left))
+
+pub objection-spec : {M : Type 1} → statement M
+objection-spec =
+    tie.close
+    (tie.spec
+    enum-told
+    enum-told-2
+    returns
+    enum-known-found
+    returns-2
+    returns-3
+    returns-4
+    returns-5
+    returns-6)
