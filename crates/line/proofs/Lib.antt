@@ -2,3 +2,4 @@ pub mod Names
 pub mod Digits
 pub mod Fields
 pub mod Requests
+pub mod Lengths
