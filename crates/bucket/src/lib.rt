@@ -45,7 +45,7 @@ pub fn log_part(card: &[u8], head: Head) -> &[u8]
     &card[16..e]
 }
 
-// The sectors of a part from the i-th on, `first` being the best of those before: a run of entries that may stand there, and then blanks.
+// The sectors of a part from sector `from` on, `first` being the best of those before: a run of entries that may stand there, and then blanks.
 // What lies behind the first blank is only asked whether its bytes are all zero.
 fn scan_from(part: &[u8], n: usize, from: usize, count: usize, quest: Quest, first: Found) -> Found
     requires { ⌜ length (now part) ≡ 16 * count ⌝ }

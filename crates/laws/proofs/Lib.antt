@@ -23,3 +23,4 @@ pub mod Puts
 pub mod Stamps
 pub mod Writes
 pub mod AsMet
+pub mod Follows

@@ -58,15 +58,23 @@ fn has_size(h: Head, len: usize) -> bool
     len == 16 * (1 + h.n * (h.m + 1))
 }
 
+// Whether a card of this length can have the geometry.
+pub fn suits(h: Head, len: usize) -> bool
+    ensures { λ r. ⌜ r ≡ (limits h & eqb len (sizeOf h)) ⌝ }
+{
+    if in_limits(h) {
+        return has_size(h, len);
+    }
+    false
+}
+
 fn keeps_layout(kind: u8, begin: u32, end: u32, h: Head, len: usize) -> bool
     ensures { λ r. ⌜ r ≡ (eqb kind 6 & eqb begin 0 & eqb end 0 & limits h & eqb len (sizeOf h)) ⌝ }
 {
     if kind == 6 {
         if begin == 0 {
             if end == 0 {
-                if in_limits(h) {
-                    return has_size(h, len);
-                }
+                return suits(h, len);
             }
         }
     }

@@ -25,22 +25,6 @@ use Rattle.trail.proofs.Tracks.{trackIn}
 use Rattle.climb.specs.Levels.{upward}
 use Rattle.write.specs.Plans.{codeOf, pathOr, walked, Came}
 
--- what an answer and a card owe to a plan
-pub record Follows (p : Plan) (card : List ℕ) (r : Answer) (new : List ℕ) : Type 0 where
-  pub answer : r ≡ planAnswer p
-  pub bytes : new ≡ planCard card p
-
-pub refuses : (p : Plan) (card : List ℕ) (r : Answer) (c : ℕ) → p ≡ refuse c → r ≡ refused c → Follows p card r card
-unfolding planAnswer planCard
-refuses p card r c q e = record { answer = e ∙ ap planAnswer (sym q); bytes = ap (planCard card) (sym q) }
-
-pub accepts : (p : Plan) (card new : List ℕ) (r : Answer) → p ≡ accept new → r ≡ refused 0 → Follows p card r new
-unfolding planAnswer planCard
-accepts p card new r q e = record { answer = e ∙ ap planAnswer (sym q); bytes = ap (planCard card) (sym q) }
-
-pub follows-same : (p q : Plan) (card : List ℕ) (r : Answer) (new : List ℕ) → p ≡ q → Follows q card r new → Follows p card r new
-follows-same p q card r new e f = record { answer = f .answer ∙ ap planAnswer (sym e); bytes = f .bytes ∙ ap (planCard card) (sym e) }
-
 -- a number refuses, 0 goes on
 abbrev coded : ℕ → Plan → Plan
 coded zero p = p

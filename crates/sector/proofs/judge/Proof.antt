@@ -10,11 +10,11 @@ keeps-row-requires c κs = search needs
 
 returns : tie.Need-returns
 unfolding judged
-returns c = search (needs, eq-eqb, ne-eqb, sym (c .before .keeps-row .ensures) ∙ c .if1 .taken)
+returns c = search (needs, sym (c .before .keeps-row .ensures) ∙ c .if1 .taken)
 
 returns-2 : tie.Need-returns-2
 unfolding judged
-returns-2 c = search (needs, eq-eqb, ne-eqb, sym (c .before .before .before .before .before .keeps-row .ensures) ∙ c .before .before .before .before .if1 .left)
+returns-2 c = search (needs, eq-eqb, sym (c .before .before .before .before .before .keeps-row .ensures) ∙ c .before .before .before .before .if1 .left)
 
 returns-3 : tie.Need-returns-3
 unfolding judged
@@ -30,7 +30,7 @@ returns-5 c = search (needs, eq-eqb, ne-eqb, sym (c .before .before .before .kee
 
 returns-6 : tie.Need-returns-6
 unfolding judged
-returns-6 c = search (needs, eq-eqb, ne-eqb, sym (c .before .before .keeps-row .ensures) ∙ c .before .if1 .left)
+returns-6 c = search (needs, ne-eqb, sym (c .before .before .keeps-row .ensures) ∙ c .before .if1 .left)
 
 pub judge-spec : {M : Type 1} → statement M
 judge-spec =

@@ -6,11 +6,11 @@ use Rattle.sector.proofs.keeps_row.Tie as tie
 
 returns : tie.Need-returns
 unfolding legal
-returns c = search (needs, eq-eqb, ne-eqb, le-leb, lt-leb)
+returns c = search (needs, eq-eqb, le-leb, lt-leb)
 
 returns-2 : tie.Need-returns-2
 unfolding legal
-returns-2 c = search (needs, eq-eqb, ne-eqb, le-leb, lt-leb)
+returns-2 c = search (needs, eq-eqb, le-leb, lt-leb)
 
 returns-3 : tie.Need-returns-3
 unfolding legal
@@ -44,7 +44,7 @@ returns-8 c = search (needs, eq-eqb, ne-eqb, le-leb, lt-leb)
 
 returns-9 : tie.Need-returns-9
 unfolding legal
-returns-9 c = search (needs, eq-eqb, ne-eqb, le-leb, lt-leb)
+returns-9 c = search (needs, ne-eqb, le-leb, lt-leb)
 
 pub keeps-row-spec : {M : Type 1} → statement M
 keeps-row-spec =

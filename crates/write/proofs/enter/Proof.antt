@@ -7,7 +7,8 @@ use Rattle.bucket.proofs.Room.{shape-of}
 use Rattle.survey.specs.Survey.{surveyOf}
 use Rattle.survey.specs.declared.Area.{Area}
 use Rattle.walk.proofs.Walks.{broken-none, sound-some}
-use Rattle.write.proofs.Codes.{refuses, follows-same, no-head, no-bib, stale, goes-in}
+use Rattle.laws.proofs.Follows.{refuses, follows-same}
+use Rattle.write.proofs.Codes.{no-head, no-bib, stale, goes-in}
 use Rattle.write.proofs.enter.Statement.{statement}
 use Rattle.write.proofs.enter.Tie as tie
 

@@ -7,7 +7,8 @@ use Rattle.rules.specs.Write.{planAt, latest}
 use Rattle.bucket.proofs.Room.{shape-of}
 use Rattle.trail.specs.Trail.{Track}
 use Rattle.trail.proofs.Tracks.{track-walk}
-use Rattle.write.proofs.Codes.{refuses, follows-same, at-refused, at-goes-on, at-came, came-path}
+use Rattle.laws.proofs.Follows.{refuses, follows-same}
+use Rattle.write.proofs.Codes.{at-refused, at-goes-on, at-came, came-path}
 use Rattle.write.proofs.insert.Statement.{statement}
 use Rattle.write.proofs.insert.Tie as tie
 

@@ -16,7 +16,7 @@ use Rattle.climb.specs.declared.Needs.{Needs}
 use Rattle.climb.specs.Levels.{countOn, tally, needsOf, upward, Ready, risen, riseOn, topped}
 use Rattle.write.specs.Plans.{walked}
 use Rattle.write.proofs.Laid.{counted, full, start-ready, plan-full, plan-room, top-within}
-use Rattle.write.proofs.Codes.{refuses, accepts}
+use Rattle.laws.proofs.Follows.{refuses, accepts}
 use Rattle.write.proofs.lay.Statement.{statement}
 use Rattle.write.proofs.lay.Tie as tie
 

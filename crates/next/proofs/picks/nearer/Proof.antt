@@ -1,4 +1,4 @@
-use borrow.Author.Tests.{le-leb, lt-leb, lt-ltb, le-ltb}
+use borrow.Author.Tests.{le-leb, lt-leb, le-ltb}
 use Rattle.next.specs.Nearer.{nearer}
 use borrow.Author.Needs.{needs}
 use Rattle.next.proofs.picks.nearer.Statement.{statement}
@@ -9,7 +9,7 @@ beats-requires c κs = search needs
 
 returns : tie.Need-returns
 unfolding nearer
-returns c = search (needs, le-leb, lt-ltb, c .beats .ensures)
+returns c = search (needs, le-leb, c .beats .ensures)
 
 returns-2 : tie.Need-returns-2
 unfolding nearer

@@ -1,0 +1,28 @@
+-- `format::format` equals the rule for every card and number.
+use borrow.Author.Needs.{needs}
+use mathlib.Core.Path.{ap, _∙_}
+use Rattle.rules.specs.declared.Head.{Head}
+use Rattle.rules.specs.Format.{meant, formatFor, format}
+use Rattle.rules.specs.Write.{planAnswer, planCard}
+use Rattle.format.proofs.format.Statement.{statement}
+use Rattle.format.proofs.format.Tie as tie
+
+meant-requires : tie.Need-meant-requires
+meant-requires c κs = search needs
+
+format-for-requires : tie.Need-format-for-requires
+format-for-requires c κs = search needs
+
+same-length : tie.Need-same-length
+same-length c = search needs
+
+returns : tie.Need-returns
+unfolding format
+returns c =
+    let o = c .before .before .before .before .before .before in
+    let m = c .before .before .before .before .meant .ensures in
+    let l = c .before .before .format-for .ensures in
+    (l .0 ∙ ap (λ (h : Head). planAnswer (formatFor (o .args .card .now) h)) m, l .1 ∙ ap (λ (h : Head). planCard (o .args .card .now) (formatFor (o .args .card .now) h)) m)
+
+pub format-spec : {M : Type 1} → statement M
+format-spec = tie.close (tie.spec meant-requires format-for-requires same-length returns)
