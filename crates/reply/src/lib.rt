@@ -56,7 +56,7 @@ fn field(out: &mut [u8], at: usize, name: &[u8], x: u32) -> usize
 // The line of an answer at the buffer's start, and its length. Five fields of ten digits and their names are 78 bytes.
 pub fn write_answer(out: &mut [u8], a: Answer) -> usize
     requires { ⌜ 80 ≤ length (now out) ⌝ }
-    ensures { λ r. ⌜ (now (out .exit) ≡ answerLine a ++ drop r (now (out .entry))) × (r ≡ length (answerLine a)) ⌝ }
+    ensures { λ r. ⌜ (now (out .exit) ≡ answerLine a ++ drop r (now (out .entry))) × (r ≡ length (answerLine a)) × (r ≤ 80) ⌝ }
 {
     let b = field(out, 0, b"code=", a.code);
     let c = field(out, b, b" bib=", a.bib);

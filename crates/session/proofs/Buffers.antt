@@ -31,3 +31,6 @@ module _ (buffer new : List ℕ) (len : ℕ) (same : length new ≡ len) where
 pub blank-front : (buffer : List ℕ) (len : ℕ) → Room buffer 0 → len ≤ 65536 → take len buffer ≡ replicate len 0
 blank-front buffer len room inside =
     zero-eq (take len buffer) (replicate len 0) (zero-take len buffer (room .blank)) (zeros-replicate len) (simp (length-take, length-replicate) (omega (arith, room .long)))
+
+pub blank-buffer : (n : ℕ) → n ≡ 65536 → Room (replicate n 0) 0
+blank-buffer n e = record { long = length-replicate n 0 ∙ e; inside = omega arith; blank = zeros-replicate n }

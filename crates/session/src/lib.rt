@@ -59,8 +59,10 @@ fn first_format(card: &mut [u8], buckets: u32, sectors: u32, td: u32, ti: u32) -
 {
     let behind = buckets as usize * (sectors as usize + 1);
     if 4095 < behind {
-        let answer = walk::refusal(8);
-        return Acted { len: 0, answer };
+        return Acted {
+            len: 0,
+            answer: walk::refusal(8),
+        };
     }
     let len = 16 * (1 + behind);
     let answer = format::format(&mut card[..len], buckets, sectors, td, ti);

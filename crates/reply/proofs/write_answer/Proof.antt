@@ -69,7 +69,8 @@ returns c =
     let t4 = two-laid out _ _ (code ++ bib ++ at) time 0 _ _ (omega arith) (t3 .0) (t3 .1) (four .0) (four .1) in
     let t5 = two-laid out _ _ (code ++ bib ++ at ++ time) reads 0 _ _ (omega arith) (t4 .0) (t4 .1) (five .0) (five .1) in
     let all = two-laid out _ _ (code ++ bib ++ at ++ time ++ reads) (text "\n") 0 _ _ (omega arith) (t5 .0) (t5 .1) (last .0) (last .1) in
-    start-laid out _ (code ++ bib ++ at ++ time ++ reads ++ text "\n") _ _ (fields-line a) (all .0) (all .1)
+    let laid = start-laid out _ (code ++ bib ++ at ++ time ++ reads ++ text "\n") _ _ (fields-line a) (all .0) (all .1) in
+    (laid .0, laid .1, omega (arith, one .2, two .2, three .2, four .2, five .2, last .1))
 
 pub write-answer-spec : {M : Type 1} → statement M
 write-answer-spec =
