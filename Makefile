@@ -1,9 +1,9 @@
 .PHONY: run test
 
-# The main job on the sample: what the program prints.
+# The bench program on document 01's session.
 run:
-	@rt check show >/dev/null
-	@target/bin/show
+	@rt check bench >/dev/null
+	@target/bin/bench < crates/bench/stdin
 
 # The gate: every crate proved from nothing, every wrong edit refused, every program run.
 test:
