@@ -5,7 +5,7 @@ use mathlib.Core.List.{List, [], _∷_, _++_}
 use lib.ListN.{length, take}
 use lib.Dec.{eqb}
 use Rattle.rules.specs.Plain.{if}
-use Rattle.rules.specs.Bench.{benchLine}
+use Rattle.rules.specs.Bench.{benchLine, answerLine}
 use Rattle.serve.specs.declared.State.{State}
 use Rattle.session.specs.Cards.{Room}
 
@@ -31,3 +31,15 @@ byteOn card kept b = if (eqb b 10) (fedTo ((benchLine card kept) .card) []) (fed
 unfoldable pub fed : List ℕ → List ℕ → List ℕ → Fed
 fed card kept [] = fedTo card kept
 fed card kept (b ∷ bs) = let one = byteOn card kept b in fed (one .card) (one .kept) bs
+
+-- what is answered: to a line when its newline comes, and to a final line unless it is empty
+unfoldable pub heard : List ℕ → List ℕ → ℕ → List ℕ
+heard card kept b = if (eqb b 10) (answerLine ((benchLine card kept) .answer)) []
+
+unfoldable pub lastHeard : List ℕ → List ℕ → List ℕ
+lastHeard card [] = []
+lastHeard card (x ∷ kept) = answerLine ((benchLine card (x ∷ kept)) .answer)
+
+unfoldable pub told : List ℕ → List ℕ → List ℕ → List ℕ
+told card kept [] = lastHeard card kept
+told card kept (b ∷ bs) = let one = byteOn card kept b in heard card kept b ++ told (one .card) (one .kept) bs
