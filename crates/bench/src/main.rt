@@ -1,0 +1,4 @@
+// The bench program, on the session of document 01.
+fn main() {
+    serve::run();
+}

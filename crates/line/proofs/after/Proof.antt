@@ -1,0 +1,78 @@
+-- `line::after` finds a name where the rules find it.
+use borrow.Author.Needs.{needs}
+use mathlib.Core.Path.{_≡_}
+use Prim.Native.Nat.{_≤_, _-_}
+use native.Mathlib.Omega.{arith}
+use denote.Ref.{now}
+use lib.ListN.{length, drop}
+use Rattle.rules.specs.Bench.{behind}
+use Rattle.line.specs.Fields.{restAt, endOf}
+use Rattle.line.proofs.Names.{name-over, name-cut, name-other, name-more}
+use Rattle.line.proofs.after.Statement.{statement}
+use Rattle.line.proofs.after.Tie as tie
+
+abbrev Inv-loop : tie.InvT-loop
+Inv-loop line at name i₀ e₀ i e = (i ≤ length name) × (e ≤ length line) × (behind (drop i name) (drop e line) ≡ behind name (drop at line))
+
+abbrev μ-loop : tie.MeasureT-loop
+μ-loop line at name i₀ e₀ i e = length name - i
+
+loop-holds : tie.Need-loop-holds Inv-loop μ-loop
+loop-holds c = search needs
+
+returns : tie.Need-returns Inv-loop μ-loop
+unfolding restAt endOf
+returns c =
+    let l = c .before .before in
+    (name-cut (now (l .before .args .line)) (now (l .before .args .name)) (l .loop .e) (l .loop .i) _ (l .loop .inv .2) (c .before .loop-test .taken) (c .if1 .taken), search needs)
+
+shared-slice-read-if2 : tie.Need-shared-slice-read-if2 Inv-loop μ-loop
+shared-slice-read-if2 c = search needs
+
+shared-slice-read-if2-2 : tie.Need-shared-slice-read-if2-2 Inv-loop μ-loop
+shared-slice-read-if2-2 c = search needs
+
+returns-2 : tie.Need-returns-2 Inv-loop μ-loop
+unfolding restAt endOf
+returns-2 c =
+    let l = c .before .before .before .before .before in
+    let h = c .before .before .before .before .loop-test .taken in
+    (name-other (now (l .before .args .line)) (now (l .before .args .name)) (l .loop .e) (l .loop .i) _ (l .loop .inv .2) h (omega (arith, l .loop .inv .1, c .before .before .before .if1 .left)) (c .if2 .taken), search needs)
+
+add-i : tie.Need-add-i Inv-loop μ-loop
+add-i c = search needs
+
+add-e : tie.Need-add-e Inv-loop μ-loop
+add-e c = search needs
+
+loop-less : tie.Need-loop-less Inv-loop μ-loop
+loop-less c = search needs
+
+loop-again : tie.Need-loop-again Inv-loop μ-loop
+loop-again c =
+    let l = c .before .before .before .before .before in
+    let h = c .before .before .before .before .loop-test .taken in
+    (search needs, search needs, name-more (now (l .before .args .line)) (now (l .before .args .name)) (l .loop .e) (l .loop .i) _ (l .loop .inv .2) h (omega (arith, l .loop .inv .1, c .before .before .before .if1 .left)) (c .if2 .left))
+
+returns-3 : tie.Need-returns-3 Inv-loop μ-loop
+unfolding restAt endOf
+returns-3 c =
+    let l = c .before in
+    (name-over (now (l .before .args .line)) (now (l .before .args .name)) (l .loop .e) (l .loop .i) _ (l .loop .inv .2) (c .loop-test .left), l .loop .inv .1)
+
+pub after-spec : {M : Type 1} → statement M
+after-spec =
+    tie.close
+    (tie.spec
+    Inv-loop
+    μ-loop
+    loop-holds
+    returns
+    shared-slice-read-if2
+    shared-slice-read-if2-2
+    returns-2
+    add-i
+    add-e
+    loop-less
+    loop-again
+    returns-3)

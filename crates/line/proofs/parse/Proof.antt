@@ -1,0 +1,62 @@
+-- `line::parse` reads a line as the rules do.
+use mathlib.Core.Path.{sym, _∙_}
+use borrow.Author.Needs.{needs}
+use denote.Ref.{now}
+use Rattle.rules.specs.Plain.{andThen}
+use Rattle.rules.specs.Calls.{formatCall, postCall}
+use Rattle.rules.specs.Bench.{numbers, formatNames, postNames, three, four, orTry, parsed}
+use Rattle.line.specs.Requests.{otherCall}
+use Rattle.line.proofs.Requests.{request-first, request-next}
+use Rattle.line.proofs.parse.Statement.{statement}
+use Rattle.line.proofs.parse.Tie as tie
+
+format-line-requires : tie.Need-format-line-requires
+format-line-requires c κs = search needs
+
+enum-told : tie.Need-enum-told
+enum-told c = search needs
+
+returns : tie.Need-returns
+unfolding parsed otherCall
+returns c =
+    let line = now (c .before .before .before .args .line) in
+    let f = c .before .format-line .ensures in
+    f ∙ request-first (andThen (numbers formatNames line) (four formatCall)) (orTry (andThen (numbers postNames line) (three postCall)) (otherCall line)) (rw f at (c .match .keys2))
+
+post-line-requires : tie.Need-post-line-requires
+post-line-requires c κs = search needs
+
+enum-told-2 : tie.Need-enum-told-2
+enum-told-2 c = search needs
+
+returns-2 : tie.Need-returns-2
+unfolding parsed otherCall
+returns-2 c =
+    let line = now (c .before .before .before .before .before .before .args .line) in
+    let p = c .before .post-line .ensures in
+    p ∙ request-first (andThen (numbers postNames line) (three postCall)) (otherCall line) (rw p at (c .match2 .keys2))
+    ∙ request-next (andThen (numbers formatNames line) (four formatCall)) (orTry (andThen (numbers postNames line) (three postCall)) (otherCall line)) (sym (c .before .before .before .before .format-line .ensures) ∙ c .before .before .enum-told .given .1)
+
+other-line-requires : tie.Need-other-line-requires
+other-line-requires c κs = search needs
+
+returns-3 : tie.Need-returns-3
+unfolding parsed otherCall
+returns-3 c =
+    let line = now (c .before .before .before .before .before .before .before .before .args .line) in
+    c .other-line .ensures
+    ∙ request-next (andThen (numbers postNames line) (three postCall)) (otherCall line) (sym (c .before .before .before .post-line .ensures) ∙ c .before .enum-told2 .given .1)
+    ∙ request-next (andThen (numbers formatNames line) (four formatCall)) (orTry (andThen (numbers postNames line) (three postCall)) (otherCall line)) (sym (c .before .before .before .before .before .before .format-line .ensures) ∙ c .before .before .before .before .enum-told .given .1)
+
+pub parse-spec : {M : Type 1} → statement M
+parse-spec =
+    tie.close
+    (tie.spec
+    format-line-requires
+    enum-told
+    returns
+    post-line-requires
+    enum-told-2
+    returns-2
+    other-line-requires
+    returns-3)

@@ -1,0 +1,81 @@
+-- `line::post_line` reads a line of a post as the rules do.
+use mathlib.Core.Path.{ap}
+use mathlib.Core.List.{[], _∷_}
+use native.Mathlib.Omega.{arith}
+use borrow.Author.Needs.{needs}
+use denote.Ref.{now}
+use Rattle.rules.specs.Calls.{postCall}
+use Rattle.rules.specs.Bench.{text, postNames}
+use Rattle.line.specs.Fields.{lastOf}
+use Rattle.line.specs.Requests.{requestOf}
+use Rattle.line.proofs.Fields.{numbers-none, numbers-more}
+use Rattle.line.proofs.Requests.{callOf, three-of}
+use Rattle.line.proofs.post_line.Statement.{statement}
+use Rattle.line.proofs.post_line.Tie as tie
+
+slice-aggregate-field : tie.Need-slice-aggregate-field
+slice-aggregate-field c = search needs
+
+field-requires : tie.Need-field-requires
+field-requires c κs = search needs
+
+enum-known-b : tie.Need-enum-known-b
+enum-known-b c = search needs
+
+enum-told : tie.Need-enum-told
+enum-told c = search needs
+
+returns : tie.Need-returns
+unfolding text postNames requestOf
+returns c =
+    let line = now (c .before .before .before .before .before .args .line) in
+    rw (numbers-none line (text "op=post bib=") (text " at=" ∷ text " time=" ∷ []) 0 _ (c .before .before .field .ensures .0) (c .enum-told .given .1))
+
+slice-aggregate-pair-at : tie.Need-slice-aggregate-pair-at
+slice-aggregate-pair-at c = search needs
+
+slice-aggregate-pair-at-2 : tie.Need-slice-aggregate-pair-at-2
+slice-aggregate-pair-at-2 c = search needs
+
+pair-at-requires : tie.Need-pair-at-requires
+unfolding lastOf
+pair-at-requires c κs = omega (arith, c .before .before .before .before .before .field .ensures .1, ap lastOf (c .before .before .before .b .given .1))
+
+enum-known-p : tie.Need-enum-known-p
+enum-known-p c = search needs
+
+enum-told-2 : tie.Need-enum-told-2
+enum-told-2 c = search needs
+
+returns-2 : tie.Need-returns-2
+unfolding text postNames requestOf callOf
+returns-2 c =
+    let line = now (c .before .before .before .before .before .before .before .before .before .before .before .args .line) in
+    let b = c .before .before .before .before .before .before .b .given in
+    let one = numbers-more line (text "op=post bib=") (text " at=" ∷ text " time=" ∷ []) 0 _ (c .before .before .before .before .before .before .before .before .field .ensures .0) (b .0 .0) (b .0 .1 .0) (b .1) in
+    rw (one, three-of postCall (b .0 .0), ← c .before .before .pair-at .ensures, c .enum-told2 .given .1)
+
+returns-3 : tie.Need-returns-3
+unfolding text postNames requestOf callOf
+returns-3 c =
+    let line = now (c .before .before .before .before .before .before .before .before .before .before .before .before .args .line) in
+    let b = c .before .before .before .before .before .before .before .b .given in
+    let one = numbers-more line (text "op=post bib=") (text " at=" ∷ text " time=" ∷ []) 0 _ (c .before .before .before .before .before .before .before .before .before .field .ensures .0) (b .0 .0) (b .0 .1 .0) (b .1) in
+    rw (one, three-of postCall (b .0 .0), ← c .before .before .before .pair-at .ensures, c .before .p .given .1)
+
+pub post-line-spec : {M : Type 1} → statement M
+post-line-spec =
+    tie.close
+    (tie.spec
+    slice-aggregate-field
+    field-requires
+    enum-known-b
+    enum-told
+    returns
+    slice-aggregate-pair-at
+    slice-aggregate-pair-at-2
+    pair-at-requires
+    enum-known-p
+    enum-told-2
+    returns-2
+    returns-3)

@@ -1,0 +1,92 @@
+-- `reply::write_answer` lays an answer down as the line of the rules.
+use mathlib.Core.List.{_++_}
+use native.Mathlib.Omega.{arith}
+use borrow.Author.Needs.{needs}
+use denote.Ref.{now}
+use Rattle.rules.specs.Bench.{text, decimal}
+use Rattle.reply.proofs.Texts.{two-laid, start-laid, fields-line}
+use Rattle.reply.proofs.write_answer.Statement.{statement}
+use Rattle.reply.proofs.write_answer.Tie as tie
+
+slice-aggregate-field : tie.Need-slice-aggregate-field
+slice-aggregate-field c = search needs
+
+field-requires : tie.Need-field-requires
+field-requires c κs = search needs
+
+slice-aggregate-field-2 : tie.Need-slice-aggregate-field-2
+slice-aggregate-field-2 c = search needs
+
+field-requires-2 : tie.Need-field-requires-2
+field-requires-2 c κs = search needs
+
+slice-aggregate-field-3 : tie.Need-slice-aggregate-field-3
+slice-aggregate-field-3 c = search needs
+
+field-requires-3 : tie.Need-field-requires-3
+field-requires-3 c κs = search needs
+
+slice-aggregate-field-4 : tie.Need-slice-aggregate-field-4
+slice-aggregate-field-4 c = search needs
+
+field-requires-4 : tie.Need-field-requires-4
+field-requires-4 c κs = search needs
+
+slice-aggregate-field-5 : tie.Need-slice-aggregate-field-5
+slice-aggregate-field-5 c = search needs
+
+field-requires-5 : tie.Need-field-requires-5
+field-requires-5 c κs = search needs
+
+slice-aggregate-put : tie.Need-slice-aggregate-put
+slice-aggregate-put c = search needs
+
+put-requires : tie.Need-put-requires
+put-requires c κs = search needs
+
+same-length : tie.Need-same-length
+same-length c = search needs
+
+returns : tie.Need-returns
+unfolding text
+returns c =
+    let o = c .before .before .before .before .before .before .before .before .before .before .before .before .before .before .before .before .before .before .before .before .before .before .before .before .before .before .before .before .before .before .before in
+    let a = o .args .a in
+    let out = now (o .args .out) in
+    let one = c .before .before .before .before .before .before .before .before .before .before .before .before .before .before .before .before .before .before .before .before .before .before .before .before .before .before .before .field .ensures in
+    let two = c .before .before .before .before .before .before .before .before .before .before .before .before .before .before .before .before .before .before .before .before .before .before .field2 .ensures in
+    let three = c .before .before .before .before .before .before .before .before .before .before .before .before .before .before .before .before .before .field3 .ensures in
+    let four = c .before .before .before .before .before .before .before .before .before .before .before .before .field4 .ensures in
+    let five = c .before .before .before .before .before .before .before .field5 .ensures in
+    let last = c .before .before .put .ensures in
+    let code = text "code=" ++ decimal (a .code) in
+    let bib = text " bib=" ++ decimal (a .bib) in
+    let at = text " at=" ++ decimal (a .at) in
+    let time = text " time=" ++ decimal (a .time) in
+    let reads = text " reads=" ++ decimal (a .reads) in
+    let t2 = two-laid out _ _ code bib 0 _ _ (omega arith) (one .0) (one .1) (two .0) (two .1) in
+    let t3 = two-laid out _ _ (code ++ bib) at 0 _ _ (omega arith) (t2 .0) (t2 .1) (three .0) (three .1) in
+    let t4 = two-laid out _ _ (code ++ bib ++ at) time 0 _ _ (omega arith) (t3 .0) (t3 .1) (four .0) (four .1) in
+    let t5 = two-laid out _ _ (code ++ bib ++ at ++ time) reads 0 _ _ (omega arith) (t4 .0) (t4 .1) (five .0) (five .1) in
+    let all = two-laid out _ _ (code ++ bib ++ at ++ time ++ reads) (text "\n") 0 _ _ (omega arith) (t5 .0) (t5 .1) (last .0) (last .1) in
+    let laid = start-laid out _ (code ++ bib ++ at ++ time ++ reads ++ text "\n") _ _ (fields-line a) (all .0) (all .1) in
+    (laid .0, laid .1, omega (arith, one .2, two .2, three .2, four .2, five .2, last .1))
+
+pub write-answer-spec : {M : Type 1} → statement M
+write-answer-spec =
+    tie.close
+    (tie.spec
+    slice-aggregate-field
+    field-requires
+    slice-aggregate-field-2
+    field-requires-2
+    slice-aggregate-field-3
+    field-requires-3
+    slice-aggregate-field-4
+    field-requires-4
+    slice-aggregate-field-5
+    field-requires-5
+    slice-aggregate-put
+    put-requires
+    same-length
+    returns)

@@ -1,0 +1,74 @@
+-- `serve::chunk` does with what was read what the rules do with each byte in turn.
+use mathlib.Core.Path.{_≡_, refl, sym, _∙_}
+use Prim.Native.Nat.{_-_, _≤_}
+use lib.ListN.{length, take, drop, drop-of-length-le}
+use borrow.Author.Needs.{needs}
+use denote.Ref.{now}
+use Rattle.serve.specs.Feeds.{Ready, fed}
+use Rattle.serve.proofs.Turns.{fed-more}
+use Rattle.serve.proofs.chunk.Statement.{statement}
+use Rattle.serve.proofs.chunk.Tie as tie
+
+abbrev Inv-loop : tie.InvT-loop
+Inv-loop got room₀ card₀ state₀ i₀ room card state i =
+    (i ≤ length got) × (length room ≡ length room₀) × (length card ≡ length card₀) × Ready room card state
+    × (fed (take (state .len) card) (take (state .used) room) (drop i got) ≡ fed (take (state₀ .len) card₀) (take (state₀ .used) room₀) got)
+
+abbrev μ-loop : tie.MeasureT-loop
+μ-loop got room₀ card₀ state₀ i₀ room card state i = length got - i
+
+loop-holds : tie.Need-loop-holds Inv-loop μ-loop
+loop-holds c = (search needs, refl, refl, c .before .before .before .pre, refl)
+
+shared-slice-read-byte : tie.Need-shared-slice-read-byte Inv-loop μ-loop
+shared-slice-read-byte c = search needs
+
+byte-requires : tie.Need-byte-requires Inv-loop μ-loop
+byte-requires c κs = c .before .before .before .before .loop .inv .3
+
+add-i : tie.Need-add-i Inv-loop μ-loop
+add-i c = search needs
+
+loop-less : tie.Need-loop-less Inv-loop μ-loop
+loop-less c = search needs
+
+loop-again : tie.Need-loop-again Inv-loop μ-loop
+loop-again c =
+    let l = c .before .before .before .before .before .before .before .before .before .loop in
+    let got = now (c .before .before .before .before .before .before .before .before .before .before .before .before .before .args .got) in
+    let k = c .before .before .before .before .byte in (
+      search needs,
+      k .kept .0 ∙ l .inv .1,
+      k .kept .1 .0 ∙ l .inv .2,
+      k .ensures .0,
+      sym (fed-more (take (l .state .len) (l .card)) (take (l .state .used) (l .room)) got (l .i) _ (c .before .before .before .before .before .before .before .before .loop-test .taken) (k .ensures .1)) ∙ l .inv .4,
+    )
+
+same-length : tie.Need-same-length Inv-loop μ-loop
+same-length c = search needs
+
+same-length-2 : tie.Need-same-length-2 Inv-loop μ-loop
+same-length-2 c = search needs
+
+returns : tie.Need-returns Inv-loop μ-loop
+unfolding fed
+returns c =
+    let l = c .before .loop in
+    let got = now (c .before .before .before .before .before .args .got) in
+    (l .inv .3, rw (drop-of-length-le got {i = l .i} (c .loop-test .left)) at (l .inv .4))
+
+pub chunk-spec : {M : Type 1} → statement M
+chunk-spec =
+    tie.close
+    (tie.spec
+    Inv-loop
+    μ-loop
+    loop-holds
+    shared-slice-read-byte
+    byte-requires
+    add-i
+    loop-less
+    loop-again
+    same-length
+    same-length-2
+    returns)

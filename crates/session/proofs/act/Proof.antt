@@ -1,0 +1,81 @@
+-- `session::act` does what the rules say of a line.
+use mathlib.Core.Path.{_≡_, sym, ap, _∙_}
+use Prim.Native.Nat.{_<_}
+use native.Mathlib.Omega.{arith}
+use lib.ListN.{length, take}
+use lib.Seq.{length-take-le}
+use borrow.Author.Needs.{needs}
+use denote.Ref.{now}
+use Rattle.rules.specs.Bench.{parsed, benchDone, benchLine}
+use Rattle.session.specs.Cards.{doneOn}
+use Rattle.session.proofs.Lines.{no-format, card-there, no-card}
+use Rattle.session.proofs.act.Statement.{statement}
+use Rattle.session.proofs.act.Tie as tie
+
+parse-requires : tie.Need-parse-requires
+parse-requires c κs = search needs
+
+enum-known-q : tie.Need-enum-known-q
+enum-known-q c = search needs
+
+act-on-requires : tie.Need-act-on-requires
+act-on-requires c κs = search needs
+
+same-length : tie.Need-same-length
+same-length c = search needs
+
+returns : tie.Need-returns
+unfolding benchLine
+returns c =
+    let a = c .before .before .before .before .before .before .before .before .args in
+    let k = c .before .before .act-on in
+    let parse = c .before .before .before .before .before .parse .ensures in
+    (k .ensures .0, k .ensures .1 ∙ ap (doneOn (take (a .len) (now (a .card)))) parse ∙ no-format (take (a .len) (now (a .card))) (parsed (now (a .line))) (rw parse at (c .before .before .before .before .match .keys2)))
+
+first-format-requires : tie.Need-first-format-requires
+first-format-requires c κs = rw (c .before .if1 .taken) at (c .before .before .before .before .before .before .before .before .pre)
+
+same-length-2 : tie.Need-same-length-2
+same-length-2 c = search needs
+
+returns-2 : tie.Need-returns-2
+unfolding benchLine
+returns-2 c =
+    let a = c .before .before .before .before .before .before .before .before .before .before .before .args in
+    let k = c .before .before .first-format in
+    let parse = c .before .before .before .before .before .before .before .before .parse .ensures in
+    let line = parsed (now (a .line)) in
+    let none : benchDone (take 0 (now (a .card))) line ≡ benchDone (take (a .len) (now (a .card))) line = rw (c .before .before .before .before .if1 .taken) in
+    (k .ensures .0, k .ensures .1 ∙ no-card line _ _ _ _ (sym parse ∙ c .before .before .before .before .before .before .q .given .1) ∙ none)
+
+act-on-requires-2 : tie.Need-act-on-requires-2
+act-on-requires-2 c κs = search needs
+
+same-length-3 : tie.Need-same-length-3
+same-length-3 c = search needs
+
+returns-3 : tie.Need-returns-3
+unfolding benchLine
+returns-3 c =
+    let a = c .before .before .before .before .before .before .before .before .before .before .before .args in
+    let room = c .before .before .before .before .before .before .before .before .before .before .before .pre in
+    let k = c .before .before .act-on2 in
+    let parse = c .before .before .before .before .before .before .before .before .parse .ensures in
+    let some : 0 < length (take (a .len) (now (a .card))) = omega (arith, length-take-le (a .len) (now (a .card)) (omega (arith, room .inside, room .long)), c .before .before .before .before .if1 .left) in
+    (k .ensures .0, k .ensures .1 ∙ ap (doneOn (take (a .len) (now (a .card)))) (sym (c .before .before .before .before .before .before .q .given .1) ∙ parse) ∙ card-there (take (a .len) (now (a .card))) (parsed (now (a .line))) some)
+
+pub act-spec : {M : Type 1} → statement M
+act-spec =
+    tie.close
+    (tie.spec
+    parse-requires
+    enum-known-q
+    act-on-requires
+    same-length
+    returns
+    first-format-requires
+    same-length-2
+    returns-2
+    act-on-requires-2
+    same-length-3
+    returns-3)
