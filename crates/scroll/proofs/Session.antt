@@ -5,7 +5,7 @@ use lib.Dec.{T}
 use Rattle.rules.specs.declared.Entry.{Entry}
 use Rattle.rules.specs.Bench.{benchCall}
 use Rattle.rules.specs.Calls.{Call, formatCall, postCall, strikeCall}
-use Rattle.rules.specs.Cases.{same}
+use Rattle.rules.proofs.Lines.{same}
 use Rattle.rules.specs.Plain.{_&_}
 use Rattle.rules.proofs.Opened.{rules}
 use Rattle.scroll.specs.Records.{Roll, rollOn, rolled}
