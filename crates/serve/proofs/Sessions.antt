@@ -1,14 +1,13 @@
 -- What is answered byte by byte, with 128 bytes of a line kept, is what the rules answer to the whole input.
-use mathlib.Core.Path.{_≡_, refl, sym, ap, ap₂, _∙_}
+use mathlib.Core.Path.{_≡_, refl, sym, ap, _∙_}
 use mathlib.Core.Logic.{⊎-elim}
 use mathlib.Core.Bool.{true, false}
 use mathlib.Core.List.{List, [], _∷_, _++_, append-assoc, append-nil}
 use Prim.Native.Nat.{ℕ, _≤_, _<_}
 use native.Mathlib.Omega.{arith}
-use lib.ListN.{length, take, length-append}
+use lib.ListN.{length, take}
 use lib.Seq.{take-all, take-append-le, length-take-le}
 use lib.Dec.{eqb}
-use Rattle.rules.specs.Plain.{if}
 use Rattle.rules.specs.Calls.{Done}
 use Rattle.rules.specs.Bench.{answerLine, startWith, lines, benchDone, benchLine, benchFrom, bench}
 use Rattle.laws.proofs.Tools.{bool-cases, le-or-lt}

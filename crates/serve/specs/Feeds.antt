@@ -10,10 +10,12 @@ use Rattle.serve.specs.declared.State.{State}
 use Rattle.session.specs.Cards.{Room}
 
 -- between two bytes
-pub record Ready (room card : List ℕ) (s : State) : Type 0 where
+pub record Ready (room card out : List ℕ) (s : State) : Type 0 where
   pub long : length room ≡ 128
   pub kept : s .used ≤ 128
   pub holds : Room card (s .len)
+  pub wide : length out ≡ 80
+  pub fits : s .said ≤ 80
 
 pub record Fed : Type 0 where
   pub card : List ℕ

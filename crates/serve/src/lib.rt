@@ -4,28 +4,32 @@ use libc::STDOUT_FILENO;
 ghost use mathlib.Core.Path.{_≡_};
 ghost use Prim.Native.Nat.{_≤_};
 ghost use lib.ListN.{length, take};
-ghost use Rattle.rules.specs.Bench.{benchLine};
+ghost use Rattle.rules.specs.Bench.{benchLine, answerLine};
 ghost use Rattle.session.specs.Cards.{Room};
-ghost use Rattle.serve.specs.Feeds.{Ready, keep, fedTo, byteOn, fed};
+ghost use Rattle.serve.specs.Feeds.{Ready, keep, fedTo, byteOn, fed, heard, lastHeard};
 
-// The card's length and the bytes of a line that are in the room.
+// Between two bytes of the input: the card's length, the bytes of a line that are in the room, and the bytes of an answer that are to be written.
 pub struct State {
     pub len: usize,
     pub used: usize,
+    pub said: usize,
 }
 
-// The answer to a line is written before another byte is read; what the card's length is afterwards.
-fn respond(card: &mut [u8], len: usize, line: &[u8]) -> usize
-    requires { ⌜ Room (now card) len ⌝ }
-    ensures { λ r. ⌜ Room (now (card .exit)) r ⌝ }
-    ensures { λ r. ⌜ take r (now (card .exit)) ≡ (benchLine (take len (now (card .entry))) (now (line .entry))) .card ⌝ }
+// The answer to a line, at the start of `out`.
+fn respond(card: &mut [u8], out: &mut [u8], len: usize, line: &[u8]) -> State
+    requires { ⌜ Room (now card) len × (length (now out) ≡ 80) ⌝ }
+    ensures { λ r. ⌜ Room (now (card .exit)) (r .len) × (r .used ≡ 0) × (r .said ≤ 80) ⌝ }
+    ensures { λ r. ⌜ take (r .len) (now (card .exit)) ≡ (benchLine (take len (now (card .entry))) (now (line .entry))) .card ⌝ }
+    ensures { λ r. ⌜ take (r .said) (now (out .exit)) ≡ answerLine ((benchLine (take len (now (card .entry))) (now (line .entry))) .answer) ⌝ }
 {
     let done = session::act(card, len, line);
     let answer = done.answer;
-    let mut out = [0u8; 80];
-    let n = reply::write_answer(&mut out, answer);
-    io::write_all(STDOUT_FILENO, &out[..n]);
-    done.len
+    let said = reply::write_answer(out, answer);
+    State {
+        len: done.len,
+        used: 0,
+        said,
+    }
 }
 
 // One more byte of a line. What the room does not hold is dropped: no line of the grammar fills it.
@@ -40,61 +44,73 @@ fn feed(room: &mut [u8], used: usize, b: u8) -> usize
     used
 }
 
-fn byte(room: &mut [u8], card: &mut [u8], s: State, b: u8) -> State
-    requires { ⌜ Ready (now room) (now card) s ⌝ }
-    ensures { λ r. ⌜ Ready (now (room .exit)) (now (card .exit)) r ⌝ }
+// One byte of the input; an answer is in `out` where the byte ends a line.
+fn byte(room: &mut [u8], card: &mut [u8], out: &mut [u8], s: State, b: u8) -> State
+    requires { ⌜ Ready (now room) (now card) (now out) s ⌝ }
+    ensures { λ r. ⌜ Ready (now (room .exit)) (now (card .exit)) (now (out .exit)) r ⌝ }
     ensures { λ r. ⌜ fedTo (take (r .len) (now (card .exit))) (take (r .used) (now (room .exit))) ≡ byteOn (take (s .len) (now (card .entry))) (take (s .used) (now (room .entry))) b ⌝ }
+    ensures { λ r. ⌜ take (r .said) (now (out .exit)) ≡ heard (take (s .len) (now (card .entry))) (take (s .used) (now (room .entry))) b ⌝ }
 {
     let used = s.used;
     if b == 10 {
-        let len = respond(card, s.len, &room[..used]);
-        return State { len, used: 0 };
+        return respond(card, out, s.len, &room[..used]);
     }
     State {
         len: s.len,
         used: feed(room, used, b),
+        said: 0,
     }
 }
 
-// The bytes of one read.
-fn chunk(got: &[u8], room: &mut [u8], card: &mut [u8], s: State) -> State
-    requires { ⌜ Ready (now room) (now card) s ⌝ }
-    ensures { λ r. ⌜ Ready (now (room .exit)) (now (card .exit)) r ⌝ }
+// The bytes of one read. An answer is written before the next byte is looked at.
+fn chunk(got: &[u8], room: &mut [u8], card: &mut [u8], out: &mut [u8], s: State) -> State
+    requires { ⌜ Ready (now room) (now card) (now out) s ⌝ }
+    ensures { λ r. ⌜ Ready (now (room .exit)) (now (card .exit)) (now (out .exit)) r ⌝ }
     ensures { λ r. ⌜ fedTo (take (r .len) (now (card .exit))) (take (r .used) (now (room .exit))) ≡ fed (take (s .len) (now (card .entry))) (take (s .used) (now (room .entry))) (now (got .entry)) ⌝ }
 {
     let mut state = s;
     let mut i: usize = 0;
     while i < got.len() {
-        state = byte(room, card, state, got[i]);
+        state = byte(room, card, out, state, got[i]);
+        let said = state.said;
+        io::write_all(STDOUT_FILENO, &out[..said]);
         i += 1;
     }
     state
 }
 
 // A final line without its newline counts unless empty.
-fn finish(room: &[u8], card: &mut [u8], s: State)
-    requires { ⌜ Ready (now room) (now card) s ⌝ }
+fn finish(room: &[u8], card: &mut [u8], out: &mut [u8], s: State) -> usize
+    requires { ⌜ Ready (now room) (now card) (now out) s ⌝ }
+    ensures { λ r. ⌜ (take r (now (out .exit)) ≡ lastHeard (take (s .len) (now (card .entry))) (take (s .used) (now (room .entry)))) × (r ≤ 80) ⌝ }
 {
     let used = s.used;
-    if 0 < used {
-        respond(card, s.len, &room[..used]);
+    if used == 0 {
+        return 0;
     }
+    let last = respond(card, out, s.len, &room[..used]);
+    last.said
 }
 
 // All of the input, a read at a time. A proved loop has to end, so its turns are counted down from a number that no run uses up.
-fn serve(buf: &mut [u8], room: &mut [u8], card: &mut [u8])
-    requires { ⌜ (length (now room) ≡ 128) × Room (now card) 0 ⌝ }
+fn serve(buf: &mut [u8], room: &mut [u8], card: &mut [u8], out: &mut [u8])
+    requires { ⌜ (length (now room) ≡ 128) × Room (now card) 0 × (length (now out) ≡ 80) ⌝ }
 {
-    let mut s = State { len: 0, used: 0 };
+    let mut s = State {
+        len: 0,
+        used: 0,
+        said: 0,
+    };
     let mut turns = u64::MAX;
     while turns > 0 {
         let got = libc::read(STDIN_FILENO, buf);
         if got <= 0 {
-            finish(room, card, s);
+            let said = finish(room, card, out, s);
+            io::write_all(STDOUT_FILENO, &out[..said]);
             return;
         }
         let n = io::count(got, buf);
-        s = chunk(&buf[..n], room, card, s);
+        s = chunk(&buf[..n], room, card, out, s);
         turns -= 1;
     }
 }
@@ -104,5 +120,6 @@ pub fn run() {
     let mut buf = io::buffer();
     let mut room = [0u8; 128];
     let mut card = [0u8; 65536];
-    serve(&mut buf, &mut room, &mut card);
+    let mut out = [0u8; 80];
+    serve(&mut buf, &mut room, &mut card, &mut out);
 }

@@ -1,7 +1,8 @@
 -- `serve::chunk` does with what was read what the rules do with each byte in turn.
 use mathlib.Core.Path.{_≡_, refl, sym, _∙_}
 use Prim.Native.Nat.{_-_, _≤_}
-use lib.ListN.{length, take, drop, drop-of-length-le}
+use native.Mathlib.Omega.{arith}
+use lib.ListN.{length, take, drop, drop-of-length-le, length-take}
 use borrow.Author.Needs.{needs}
 use denote.Ref.{now}
 use Rattle.serve.specs.Feeds.{Ready, fed}
@@ -10,21 +11,34 @@ use Rattle.serve.proofs.chunk.Statement.{statement}
 use Rattle.serve.proofs.chunk.Tie as tie
 
 abbrev Inv-loop : tie.InvT-loop
-Inv-loop got room₀ card₀ state₀ i₀ room card state i =
-    (i ≤ length got) × (length room ≡ length room₀) × (length card ≡ length card₀) × Ready room card state
+Inv-loop got room₀ card₀ out₀ state₀ i₀ room card out state i =
+    (i ≤ length got) × (length room ≡ length room₀) × (length card ≡ length card₀) × (length out ≡ length out₀) × Ready room card out state
     × (fed (take (state .len) card) (take (state .used) room) (drop i got) ≡ fed (take (state₀ .len) card₀) (take (state₀ .used) room₀) got)
 
 abbrev μ-loop : tie.MeasureT-loop
-μ-loop got room₀ card₀ state₀ i₀ room card state i = length got - i
+μ-loop got room₀ card₀ out₀ state₀ i₀ room card out state i = length got - i
 
 loop-holds : tie.Need-loop-holds Inv-loop μ-loop
-loop-holds c = (search needs, refl, refl, c .before .before .before .pre, refl)
+loop-holds c = (search needs, refl, refl, refl, c .before .before .before .before .pre, refl)
 
 shared-slice-read-byte : tie.Need-shared-slice-read-byte Inv-loop μ-loop
 shared-slice-read-byte c = search needs
 
 byte-requires : tie.Need-byte-requires Inv-loop μ-loop
-byte-requires c κs = c .before .before .before .before .loop .inv .3
+byte-requires c κs = c .before .before .before .before .before .loop .inv .4
+
+slice-reshare-prefix-write-all : tie.Need-slice-reshare-prefix-write-all Inv-loop μ-loop
+slice-reshare-prefix-write-all c =
+    let k = c .before .before .before .before .before .before .byte .ensures .0 in
+    omega (arith, k .fits, k .wide)
+
+slice-aggregate-write-all : tie.Need-slice-aggregate-write-all Inv-loop μ-loop
+slice-aggregate-write-all c =
+    let k = c .before .before .before .before .before .before .before .byte .ensures .0 in
+    simp length-take (omega (arith, k .fits, k .wide))
+
+write-all-requires : tie.Need-write-all-requires Inv-loop μ-loop
+write-all-requires c κs = search needs
 
 add-i : tie.Need-add-i Inv-loop μ-loop
 add-i c = search needs
@@ -34,14 +48,15 @@ loop-less c = search needs
 
 loop-again : tie.Need-loop-again Inv-loop μ-loop
 loop-again c =
-    let l = c .before .before .before .before .before .before .before .before .before .loop in
-    let got = now (c .before .before .before .before .before .before .before .before .before .before .before .before .before .args .got) in
-    let k = c .before .before .before .before .byte in (
+    let l = c .before .before .before .before .before .before .before .before .before .before .before .before .before .before .loop in
+    let got = now (c .before .before .before .before .before .before .before .before .before .before .before .before .before .before .before .before .before .before .before .args .got) in
+    let k = c .before .before .before .before .before .before .before .before .byte in (
       search needs,
       k .kept .0 ∙ l .inv .1,
       k .kept .1 .0 ∙ l .inv .2,
+      k .kept .1 .1 .0 ∙ l .inv .3,
       k .ensures .0,
-      sym (fed-more (take (l .state .len) (l .card)) (take (l .state .used) (l .room)) got (l .i) _ (c .before .before .before .before .before .before .before .before .loop-test .taken) (k .ensures .1)) ∙ l .inv .4,
+      sym (fed-more (take (l .state .len) (l .card)) (take (l .state .used) (l .room)) got (l .i) _ (c .before .before .before .before .before .before .before .before .before .before .before .before .before .loop-test .taken) (k .ensures .1 .0)) ∙ l .inv .5,
     )
 
 same-length : tie.Need-same-length Inv-loop μ-loop
@@ -50,12 +65,15 @@ same-length c = search needs
 same-length-2 : tie.Need-same-length-2 Inv-loop μ-loop
 same-length-2 c = search needs
 
+same-length-3 : tie.Need-same-length-3 Inv-loop μ-loop
+same-length-3 c = search needs
+
 returns : tie.Need-returns Inv-loop μ-loop
 unfolding fed
 returns c =
     let l = c .before .loop in
-    let got = now (c .before .before .before .before .before .args .got) in
-    (l .inv .3, rw (drop-of-length-le got {i = l .i} (c .loop-test .left)) at (l .inv .4))
+    let got = now (c .before .before .before .before .before .before .args .got) in
+    (l .inv .4, rw (drop-of-length-le got {i = l .i} (c .loop-test .left)) at (l .inv .5))
 
 pub chunk-spec : {M : Type 1} → statement M
 chunk-spec =
@@ -66,9 +84,13 @@ chunk-spec =
     loop-holds
     shared-slice-read-byte
     byte-requires
+    slice-reshare-prefix-write-all
+    slice-aggregate-write-all
+    write-all-requires
     add-i
     loop-less
     loop-again
     same-length
     same-length-2
+    same-length-3
     returns)

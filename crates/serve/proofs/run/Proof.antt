@@ -17,8 +17,11 @@ slice-aggregate-serve-2 c = search needs
 slice-aggregate-serve-3 : tie.Need-slice-aggregate-serve-3
 slice-aggregate-serve-3 c = search needs
 
+slice-aggregate-serve-4 : tie.Need-slice-aggregate-serve-4
+slice-aggregate-serve-4 c = search needs
+
 serve-requires : tie.Need-serve-requires
-serve-requires c κs = (refl, blank-buffer 65536 refl)
+serve-requires c κs = (refl, blank-buffer 65536 refl, refl)
 
 returns : tie.Need-returns
 returns c = search needs
@@ -31,5 +34,6 @@ run-spec =
     slice-aggregate-serve
     slice-aggregate-serve-2
     slice-aggregate-serve-3
+    slice-aggregate-serve-4
     serve-requires
     returns)
