@@ -21,7 +21,8 @@ use Rattle.laws.proofs.Blanks.{upFrom, blanks-from}
 use Rattle.laws.proofs.Buckets.{raw, run-length}
 use Rattle.laws.proofs.Heads.{log-fits}
 use Rattle.scan.specs.Look.{logOf}
-use Rattle.level.specs.Level.{usedOf, puts, pairsOf, needOf}
+use Rattle.writer.specs.Rows.{puts}
+use Rattle.level.specs.Level.{usedOf, pairsOf, needOf}
 use Rattle.bucket.specs.Shapes.{Shape}
 use Rattle.climb.specs.Levels.{ownCard}
 use Rattle.climb.proofs.Reading.{part-run, used-run}

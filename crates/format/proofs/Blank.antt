@@ -24,7 +24,7 @@ use Rattle.laws.proofs.Zeros.{zero-sector}
 use Rattle.laws.proofs.Used.{run-blank}
 use Rattle.laws.proofs.Buckets.{raw}
 use Rattle.laws.proofs.Heads.{Lim, limits-hold, head-length}
-use Rattle.level.specs.Level.{puts}
+use Rattle.writer.specs.Rows.{puts}
 use Rattle.climb.proofs.Laying.{into-puts}
 
 module _ (h : Head) (card : List ℕ) (li : limits h ≡ true) (size : length card ≡ sizeOf h) (zs : zeros card ≡ true) where

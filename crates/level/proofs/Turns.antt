@@ -14,7 +14,8 @@ use Rattle.rules.specs.Sector.{put, encode, sectorAt, fields, isIndex}
 use Rattle.rules.specs.Rewrite.{keyOf, pair, limitOf}
 use Rattle.hand.specs.Hand.{entriesAt}
 use Rattle.hand.proofs.Turns.{slice-next}
-use Rattle.level.specs.Level.{usedOf, puts, pairsOf, AllSmall}
+use Rattle.writer.specs.Rows.{puts}
+use Rattle.level.specs.Level.{usedOf, pairsOf, AllSmall}
 
 module _ (part : List ℕ) (m R u : ℕ) (h : usedOf u part u (m - u) ≡ R) where
   pub used-here : u < m → getD part (16 * u) 0 ≡ 0 → u ≡ R

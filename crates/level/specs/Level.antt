@@ -5,7 +5,6 @@ use lib.Dec.{ltb, eqb}
 use lib.ListN.{length, getD, take, drop}
 use Rattle.rules.specs.declared.Entry.{Entry}
 use Rattle.rules.specs.Plain.{if}
-use Rattle.rules.specs.Sector.{put, encode}
 use Rattle.rules.specs.Rewrite.{pair}
 use Rattle.laws.proofs.Lists.{All}
 use Rattle.level.specs.declared.Sent.{Sent}
@@ -17,11 +16,6 @@ sentList p = if (p .two) (p .low ∷ p .high ∷ []) (p .low ∷ [])
 abbrev pub usedOf : ℕ → List ℕ → ℕ → ℕ → ℕ
 usedOf u part i zero = u
 usedOf u part i (suc c) = if (eqb (getD part (16 * i) 0) 0) u (usedOf (u + 1) part (i + 1) c)
-
--- entries put into sectors in a row
-abbrev pub puts : List ℕ → ℕ → List Entry → List ℕ
-puts card i [] = card
-puts card i (e ∷ es) = puts (put card i (encode e)) (i + 1) es
 
 -- the pairs of the new buckets that take es, and how many those are
 unfoldable pub pairsOf : ℕ → ℕ → ℕ → List Entry → List Entry

@@ -9,7 +9,8 @@ ghost use lib.ListN.{length, drop};
 ghost use lib.Seq.{slice};
 ghost use Rattle.rules.specs.Rewrite.{keyOf, kept, pair, limitOf};
 ghost use Rattle.hand.specs.Hand.{held, entriesAt};
-ghost use Rattle.level.specs.Level.{sentList, usedOf, puts, pairsOf, needOf, AllSmall};
+ghost use Rattle.writer.specs.Rows.{puts};
+ghost use Rattle.level.specs.Level.{sentList, usedOf, pairsOf, needOf, AllSmall};
 
 // What goes up from a level: the call's entry at first, then the pairs of the new buckets.
 pub struct Sent {

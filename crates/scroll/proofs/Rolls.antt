@@ -1,4 +1,4 @@
--- A turn and the end of a roll of records, counted and laid down.
+-- A turn and the end of a roll of records, counted and puts down.
 use mathlib.Core.Path.{_≡_, refl, ap, sym, _∙_}
 use mathlib.Core.Bool.{Bool, true, false}
 use mathlib.Core.List.{List, [], _∷_}
@@ -12,7 +12,8 @@ use Rattle.rules.specs.declared.Entry.{Entry}
 use Rattle.rules.specs.Next.{next}
 use Rattle.rules.specs.Sector.{put, encode}
 use Rattle.scroll.specs.declared.Tally.{Tally}
-use Rattle.scroll.specs.Records.{Roll, roll, recordOf, rollOn, rolled, given, tallyOf, laid}
+use Rattle.writer.specs.Rows.{puts}
+use Rattle.scroll.specs.Records.{Roll, roll, recordOf, rollOn, rolled, given, tallyOf}
 
 -- the tally of a roll that comes after n records
 abbrev pub tallyAfter : ℕ → Roll → Tally
@@ -24,7 +25,7 @@ count-start card at c bib =
     let none : 0 + length (rolled card at c bib .records) ≡ length (rolled card at c bib .records) = omega arith in
     rw (all, none)
 
-pub lay-start : (card : List ℕ) (at c bib : ℕ) (out : List ℕ) → laid out 0 (rolled card at (c - 0) bib .records) ≡ laid out 0 (rolled card at c bib .records)
+pub lay-start : (card : List ℕ) (at c bib : ℕ) (out : List ℕ) → puts out 0 (rolled card at (c - 0) bib .records) ≡ puts out 0 (rolled card at c bib .records)
 lay-start card at c bib out = let all : c - 0 ≡ c = omega arith in rw all
 
 module _ (card : List ℕ) (at c i last : ℕ) (a : Answer) (is : a ≡ next card last at) (lt : i < c) where
@@ -45,13 +46,11 @@ module _ (card : List ℕ) (at c i last : ℕ) (a : Answer) (is : a ≡ next car
       let e : i + 1 + length (r .records) ≡ i + suc (length (r .records)) = omega arith in
       rw e (rw (roll-more z) at h)
 
-  pub lay-stop : (R out : List ℕ) → laid out i (rolled card at (c - i) last .records) ≡ R → a .bib ≡ 0 → out ≡ R
-  unfolding laid
+  pub lay-stop : (R out : List ℕ) → puts out i (rolled card at (c - i) last .records) ≡ R → a .bib ≡ 0 → out ≡ R
   lay-stop R out h z = rw (roll-stop z) at h
 
-  pub lay-more : (R out new : List ℕ) → new ≡ put out i (encode (recordOf a)) → laid out i (rolled card at (c - i) last .records) ≡ R → (a .bib ≡ 0 → ⊥)
-      → laid new (i + 1) (rolled card at (c - (i + 1)) (a .bib) .records) ≡ R
-  unfolding laid
+  pub lay-more : (R out new : List ℕ) → new ≡ put out i (encode (recordOf a)) → puts out i (rolled card at (c - i) last .records) ≡ R → (a .bib ≡ 0 → ⊥)
+      → puts new (i + 1) (rolled card at (c - (i + 1)) (a .bib) .records) ≡ R
   lay-more R out new e h z = rw e (rw (roll-more z) at h)
 
 module _ (card : List ℕ) (at c i last : ℕ) (le : c ≤ i) where
@@ -62,8 +61,7 @@ module _ (card : List ℕ) (at c i last : ℕ) (le : c ≤ i) where
   pub count-end : (R : Tally) → tallyAfter i (rolled card at (c - i) last) ≡ R → record { code = 0; count = i } ≡ R
   count-end R h = let e : i + 0 ≡ i = omega arith in rw e at (rw roll-end at h)
 
-  pub lay-end : (R out : List ℕ) → laid out i (rolled card at (c - i) last .records) ≡ R → out ≡ R
-  unfolding laid
+  pub lay-end : (R out : List ℕ) → puts out i (rolled card at (c - i) last .records) ≡ R → out ≡ R
   lay-end R out h = rw roll-end at h
 
 one-length : (card : List ℕ) (at c bib : ℕ) → ((b : ℕ) → rolled card at (length (rolled card at c b .records)) b .records ≡ rolled card at c b .records)
@@ -89,15 +87,14 @@ given-none r z = rw (ne-eqb _ _ z)
 
 -- what is given of a roll that was counted: all where it met no refusal, else nothing
 module _ (card : List ℕ) (at c bib : ℕ) (out : List ℕ) (t : Tally) (is : t ≡ tallyOf (rolled card at c bib)) where
-  pub records-all : (new : List ℕ) → t .code ≡ 0 → new ≡ laid out 0 (rolled card at (t .count) bib .records)
-      → (t ≡ tallyOf (given (rolled card at c bib))) × (new ≡ laid out 0 (given (rolled card at c bib) .records))
+  pub records-all : (new : List ℕ) → t .code ≡ 0 → new ≡ puts out 0 (rolled card at (t .count) bib .records)
+      → (t ≡ tallyOf (given (rolled card at c bib))) × (new ≡ puts out 0 (given (rolled card at c bib) .records))
   records-all new z h =
       let all = given-all (rolled card at c bib) (sym (ap (λ (u : Tally). u .code) is) ∙ z) in
-      let many = ap (λ (u : Tally). laid out 0 (rolled card at (u .count) bib .records)) is in
-      rw all (is, h ∙ many ∙ ap (laid out 0) (roll-length card at c bib))
+      let many = ap (λ (u : Tally). puts out 0 (rolled card at (u .count) bib .records)) is in
+      rw all (is, h ∙ many ∙ ap (puts out 0) (roll-length card at c bib))
 
-  pub records-none : (t .code ≡ 0 → ⊥) → (record { code = t .code; count = 0 } ≡ tallyOf (given (rolled card at c bib))) × (out ≡ laid out 0 (given (rolled card at c bib) .records))
-  unfolding laid
+  pub records-none : (t .code ≡ 0 → ⊥) → (record { code = t .code; count = 0 } ≡ tallyOf (given (rolled card at c bib))) × (out ≡ puts out 0 (given (rolled card at c bib) .records))
   records-none z =
       let same = ap (λ (u : Tally). u .code) is in
       rw (given-none (rolled card at c bib) (λ e. z (same ∙ e))) (ap (λ (n : ℕ). tallyOf (roll n [])) same, refl)

@@ -7,7 +7,7 @@ use Rattle.rules.specs.declared.Answer.{Answer}
 use Rattle.rules.specs.declared.Entry.{Entry}
 use Rattle.rules.specs.Next.{next}
 use Rattle.rules.specs.Plain.{if}
-use Rattle.rules.specs.Sector.{encode, postEntry, put}
+use Rattle.rules.specs.Sector.{postEntry}
 use Rattle.scroll.specs.declared.Tally.{Tally}
 
 -- the records up to the end, a refusal or the last place, and the number of the refusal, else 0
@@ -35,8 +35,3 @@ given r = if (eqb (r .code) 0) r (roll (r .code) [])
 
 abbrev pub tallyOf : Roll → Tally
 tallyOf r = record { code = r .code; count = length (r .records) }
-
--- the records as sectors of the buffer, from sector i on; "every other lent byte" stays
-unfoldable pub laid : List ℕ → ℕ → List Entry → List ℕ
-laid out i [] = out
-laid out i (e ∷ es) = laid (put out i (encode e)) (i + 1) es

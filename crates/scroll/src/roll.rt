@@ -1,8 +1,9 @@
-// The records of a scroll in a row: counted, and laid down.
+// The records of a scroll in a row: counted, and puts down.
 ghost use mathlib.Core.Path.{_≡_};
 ghost use Prim.Native.Nat.{_*_, _≤_};
 ghost use lib.ListN.{length};
-ghost use Rattle.scroll.specs.Records.{rolled, tallyOf, recordOf, laid};
+ghost use Rattle.writer.specs.Rows.{puts};
+ghost use Rattle.scroll.specs.Records.{rolled, tallyOf, recordOf};
 use crate::Tally;
 use rules::Answer;
 use rules::Entry;
@@ -41,7 +42,7 @@ fn record_of(a: Answer) -> Entry
 // The records above a bib, into the first sectors of the buffer.
 pub fn lay(card: &[u8], bib: u32, at: u32, out: &mut [u8], places: usize)
     requires { ⌜ 16 * places ≤ length (now out) ⌝ }
-    ensures { λ _. ⌜ now (out .exit) ≡ laid (now (out .entry)) 0 (rolled (now (card .entry)) at places bib .records) ⌝ }
+    ensures { λ _. ⌜ now (out .exit) ≡ puts (now (out .entry)) 0 (rolled (now (card .entry)) at places bib .records) ⌝ }
 {
     let mut last = bib;
     let mut i: usize = 0;

@@ -7,7 +7,8 @@ use native.Mathlib.Omega.{arith}
 use lib.ListN.{length}
 use Rattle.rules.specs.Layout.{base}
 use Rattle.rules.specs.Rewrite.{into}
-use Rattle.level.specs.Level.{sentList, puts}
+use Rattle.writer.specs.Rows.{puts}
+use Rattle.level.specs.Level.{sentList}
 use Rattle.laws.proofs.Heads.{bucket-fits}
 use Rattle.climb.specs.Levels.{Ready}
 use Rattle.climb.proofs.Laying.{into-puts}

@@ -6,7 +6,8 @@ use native.Mathlib.Omega.{arith}
 use lib.ListN.{length}
 use mathlib.Core.Path.{ap₂}
 use Rattle.rules.specs.Layout.{base}
-use Rattle.level.specs.Level.{sentList, puts}
+use Rattle.writer.specs.Rows.{puts}
+use Rattle.level.specs.Level.{sentList}
 use Rattle.laws.proofs.Heads.{bucket-low, bucket-fits}
 use Rattle.climb.specs.Levels.{entriesOn}
 use Rattle.climb.proofs.Reading.{reads}

@@ -8,7 +8,7 @@ use lib.ListN.{length}
 use lib.Seq.{slice}
 use lib.Seq.{length-slice}
 use Rattle.rules.specs.Layout.{base}
-use Rattle.level.specs.Level.{puts}
+use Rattle.writer.specs.Rows.{puts}
 use Rattle.laws.proofs.Heads.{bucket-fits}
 use Rattle.climb.proofs.Laying.{into-puts}
 use Rattle.climb.proofs.write_new.Statement.{statement}

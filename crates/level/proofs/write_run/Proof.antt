@@ -6,7 +6,8 @@ use native.Mathlib.Omega.{arith}
 use lib.ListN.{length, length-map}
 use lib.Seq.{slice}
 use Rattle.level.proofs.Turns.{puts-turn, puts-end, small-turn}
-use Rattle.level.specs.Level.{puts, AllSmall}
+use Rattle.writer.specs.Rows.{puts}
+use Rattle.level.specs.Level.{AllSmall}
 use Rattle.level.proofs.write_run.Statement.{statement}
 use Rattle.level.proofs.write_run.Tie as tie
 

@@ -1,4 +1,4 @@
--- `roll::lay` lays the records of a roll down in a row. The roll that is left, laid down in the buffer as it is, gives what the whole roll gives in the buffer that came.
+-- `roll::lay` lays the records of a roll down in a row. The roll that is left, puts down in the buffer as it is, gives what the whole roll gives in the buffer that came.
 use borrow.Author.Needs.{needs}
 use mathlib.Core.Path.{_≡_, ap, _∙_}
 use native.Mathlib.Omega.{arith}
@@ -7,13 +7,14 @@ use lib.ListN.{length}
 use denote.Ref.{now}
 use Rattle.rules.specs.declared.Entry.{Entry}
 use Rattle.rules.specs.Sector.{put, encode}
-use Rattle.scroll.specs.Records.{rolled, laid}
+use Rattle.writer.specs.Rows.{puts}
+use Rattle.scroll.specs.Records.{rolled}
 use Rattle.scroll.proofs.Rolls.{lay-start, lay-stop, lay-more, lay-end}
 use Rattle.scroll.proofs.roll.lay.Statement.{statement}
 use Rattle.scroll.proofs.roll.lay.Tie as tie
 
 abbrev Inv-loop : tie.InvT-loop
-Inv-loop card bib at out₀ places last₀ i₀ out last i = (i ≤ places) × (length out ≡ length out₀) × (laid out i (rolled card at (places - i) last .records) ≡ laid out₀ 0 (rolled card at places bib .records))
+Inv-loop card bib at out₀ places last₀ i₀ out last i = (i ≤ places) × (length out ≡ length out₀) × (puts out i (rolled card at (places - i) last .records) ≡ puts out₀ 0 (rolled card at places bib .records))
 
 abbrev μ-loop : tie.MeasureT-loop
 μ-loop card bib at out₀ places last₀ i₀ out last i = places - i
