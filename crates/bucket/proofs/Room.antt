@@ -3,12 +3,11 @@ use mathlib.Core.Path.{_≡_}
 use mathlib.Core.List.{List}
 use mathlib.Core.Option.{some}
 use Prim.Native.Nat.{ℕ, _+_, _*_, _-_, _≤_}
-use native.Mathlib.Nat.{mul-le-mul-right}
 use native.Mathlib.Omega.{arith}
 use lib.ListN.{length}
 use Rattle.rules.specs.declared.Head.{Head}
 use Rattle.rules.specs.Layout.{base, headOf}
-use Rattle.laws.proofs.Heads.{head-facts, bucket-fits, log-fits}
+use Rattle.laws.proofs.Heads.{head-facts, bucket-fits, log-fits, bucket-low}
 use Rattle.bucket.specs.Shapes.{Shape}
 
 -- the card whose head was read has the shape
@@ -23,9 +22,8 @@ pub room : (h : Head) (card : List ℕ) (b : ℕ) → Shape h card → 1 ≤ b �
 unfolding base
 room h card b shape one most =
     let lim = shape .lim in
-    let wide : h .m * (b - 1) ≤ 32 * (b - 1) = mul-le-mul-right (b - 1) (lim .m32) in
     let fits : 16 * (1 + h .n + h .m * (b - 1) + h .m) ≤ length card = bucket-fits h card b (shape .long) one most in
-    record { low = omega arith; inside = omega arith }
+    record { low = bucket-low (h .m) (h .n) b (lim .m32) (lim .n4096) most; inside = omega arith }
 
 pub log-room : (h : Head) (card : List ℕ) → Shape h card → 16 + 16 * h .n ≤ length card
 log-room h card shape = let fits = log-fits h card (shape .long) in omega arith

@@ -1,27 +1,25 @@
 -- The way up by bucket numbers is the rule's climb along the path, and the count made beforehand foretells its hand and its fresh buckets.
-use mathlib.Core.Path.{_≡_, refl, ap, ap₂, sym, _∙_, subst}
+use mathlib.Core.Path.{_≡_, refl, ap, sym, _∙_, subst}
 use mathlib.Core.Logic.{_⊎_, inl, inr, ⊎-elim}
-use mathlib.Core.Bool.{Bool, true, false}
-use mathlib.Core.Option.{Option, none, some}
+use mathlib.Core.Bool.{true, false}
+use mathlib.Core.Option.{some}
 use mathlib.Core.List.{List, [], _∷_, _++_, append-assoc}
-use Prim.Native.Nat.{ℕ, zero, suc, _+_, _-_, _≤_, _<_}
+use Prim.Native.Nat.{ℕ, _+_, _-_, _≤_, _<_}
 use native.Mathlib.Omega.{arith}
 use lib.Dec.{leb}
 use lib.ListN.{length}
 use Rattle.rules.specs.declared.Entry.{Entry}
 use Rattle.rules.specs.declared.Head.{Head}
-use Rattle.rules.specs.Plain.{if}
 use Rattle.rules.specs.Layout.{headOf}
 use Rattle.rules.specs.Bucket.{bucket, blanksOf}
 use Rattle.rules.specs.Walk.{Visit, walk}
-use Rattle.rules.specs.Rewrite.{Rise, kept, keyOf, limitOf, into, renew}
+use Rattle.rules.specs.Rewrite.{Rise, kept, keyOf, limitOf}
 use Rattle.rules.specs.Write.{place, placeIf, climb, topUsed}
 use Rattle.laws.proofs.Tools.{le-or-lt, bool-cases}
-use Rattle.laws.proofs.Fresh.{placeIf-fresh, climb-mono}
+use Rattle.laws.proofs.Fresh.{placeIf-fresh}
 use Rattle.laws.proofs.AsMet.{AsMet, as-met}
 use Rattle.laws.proofs.Paths.{Along, walk-reads}
-use Rattle.level.specs.Level.{pairsOf, needOf}
-use Rattle.climb.specs.Levels.{entriesOn, orEmpty, visitOn, riseOn, keptOn, limitOn, ownCard, Tally, tally, tallyAt, tallyIf, countOn, upward}
+use Rattle.climb.specs.Levels.{entriesOn, orEmpty, visitOn, riseOn, keptOn, limitOn, Tally, tally, tallyAt, tallyIf, countOn, upward}
 use Rattle.climb.proofs.Laying.{renew-parts}
 
 up-append : (p : List Visit) (above : List ℕ) → upward p above ≡ upward p [] ++ above

@@ -1,38 +1,31 @@
 -- A turn of the count, the sizes that keep it within its numbers, and kinds that one byte holds.
 use mathlib.Core.Path.{_≡_, refl, ap, ap₂, sym, _∙_, subst}
-use mathlib.Core.Logic.{_⊎_, inl, inr, ⊎-elim}
-use mathlib.Core.Bool.{Bool, true, false}
-use mathlib.Core.Option.{Option, none, some}
+use mathlib.Core.Logic.{_⊎_, ⊎-elim}
+use mathlib.Core.Bool.{true, false}
+use mathlib.Core.Option.{none}
 use mathlib.Core.List.{List, [], _∷_, _++_}
-use Prim.Native.Nat.{ℕ, zero, suc, _+_, _-_, _*_, _/_, _≤_, _<_}
-use native.Mathlib.Nat.{mul-le-mul}
+use Prim.Native.Nat.{ℕ, zero, suc, _+_, _-_, _≤_, _<_}
 use native.Mathlib.Numerals.{add-one}
 use native.Mathlib.Omega.{arith}
-use borrow.Author.Tests.{lt-ltb, le-ltb}
 use lib.Dec.{ltb}
 use lib.ListN.{length, take, drop, getD}
 use lib.Seq.{drop-cons}
 use Rattle.rules.specs.declared.Entry.{Entry}
 use Rattle.rules.specs.declared.Head.{Head}
-use Rattle.rules.specs.Plain.{if}
 use Rattle.rules.specs.Sector.{isIndex}
 use Rattle.rules.specs.Bucket.{blanksOf}
-use Rattle.rules.specs.Rewrite.{pair, limitOf, kept, keyOf}
+use Rattle.rules.specs.Rewrite.{pair, limitOf, kept}
 use Rattle.laws.proofs.Tools.{bool-cases}
 use Rattle.laws.proofs.Heads.{Lim}
-use Rattle.laws.proofs.Lists.{All}
 use Rattle.laws.proofs.Halves.{kept-all}
 use Rattle.laws.proofs.Blanks.{upFrom}
-use Rattle.level.specs.Level.{sentList, pairsOf, needOf, AllSmall}
+use Rattle.level.specs.Level.{sentList, pairsOf, AllSmall}
 use Rattle.level.specs.declared.Sent.{Sent}
 use Rattle.bucket.specs.Shapes.{Shape}
 use Rattle.climb.specs.declared.Renewed.{Renewed}
-use Rattle.climb.specs.Levels.{entriesOn, keptOn, limitOn, Tally, tally, countOn, needsOf, freshOver, isOpen, Read, AllRead, HandsOn}
-use Rattle.climb.proofs.Reading.{Reads, reads}
+use Rattle.climb.specs.Levels.{entriesOn, keptOn, limitOn, Tally, tally, countOn, Read, AllRead, HandsOn}
+use Rattle.climb.proofs.Reading.{reads}
 use Rattle.climb.proofs.Rising.{count-room, count-full}
-
-pub base-small : (m n b : ℕ) → m ≤ 32 → n ≤ 4096 → b ≤ n → m * (b - 1) ≤ 131072
-base-small m n b p q r = mul-le-mul {n₂ = 32} {m₂ = 4096} p (omega arith)
 
 small-append : (es ds : List Entry) → AllSmall es → AllSmall ds → AllSmall (es ++ ds)
 small-append [] ds a b = b

@@ -1,33 +1,30 @@
 -- A bucket that is read, as its part of the card gives it: how many sectors are written, their entries, its blanks.
 use mathlib.Core.Path.{_≡_, refl, ap, ap₂, sym, _∙_, subst}
-use mathlib.Core.Logic.{_⊎_, inl, inr, ⊎-elim}
-use mathlib.Core.Bool.{Bool, true, false}
-use mathlib.Core.Option.{Option, none, some}
-use mathlib.Core.List.{List, [], _∷_, _++_}
+use mathlib.Core.Logic.{_⊎_, ⊎-elim}
+use mathlib.Core.Bool.{true, false}
+use mathlib.Core.Option.{some}
+use mathlib.Core.List.{List, [], _∷_}
 use Prim.Native.Nat.{ℕ, zero, suc, _+_, _-_, _*_, _≤_, _<_}
 use native.Mathlib.Numerals.{add-one}
 use native.Mathlib.Omega.{arith}
-use borrow.Author.Tests.{eq-eqb, ne-eqb, eqb-true, leb-true}
-use lib.Dec.{leb, eqb}
+use borrow.Author.Tests.{eq-eqb, ne-eqb, eqb-true}
+use lib.Dec.{eqb}
 use lib.ListN.{length, take, drop, getD}
 use lib.Seq.{getD-take, getD-drop}
 use Rattle.rules.specs.declared.Entry.{Entry}
 use Rattle.rules.specs.declared.Head.{Head}
-use Rattle.rules.specs.declared.Sector.{Sector}
-use Rattle.rules.specs.declared.Sector.the-variants.{Blank, Held, Damaged}
-use Rattle.rules.specs.Plain.{if, _&_, zeros}
+use Rattle.rules.specs.declared.Sector.the-variants.{Blank, Held}
 use Rattle.rules.specs.Sector.{sectorAt, fields, decode, legal}
-use Rattle.rules.specs.Layout.{base, sizeOf}
-use Rattle.rules.specs.Bucket.{run, bucket, log, blanksOf, blanks, logBlanks, soundBucket, soundLog}
-use Rattle.laws.proofs.Tools.{then-inv, none-some, bool-cases, false-true}
+use Rattle.rules.specs.Layout.{base}
+use Rattle.rules.specs.Bucket.{run, bucket, blanksOf, blanks, soundBucket}
+use Rattle.laws.proofs.Tools.{none-some, bool-cases, false-true}
 use Rattle.laws.proofs.Codec.{blank-zeros}
 use Rattle.laws.proofs.Run.{onto-inv}
 use Rattle.laws.proofs.Zeros.{zeros-get}
 use Rattle.laws.proofs.Bytes.{held-inv}
 use Rattle.laws.proofs.Blanks.{upFrom, blanks-from}
 use Rattle.laws.proofs.Buckets.{raw, bucket-raw, run-length, bucket-within}
-use Rattle.laws.proofs.Heads.{bucket-fits, log-fits}
-use Rattle.laws.proofs.Lists.{All}
+use Rattle.laws.proofs.Heads.{bucket-fits}
 use Rattle.scan.specs.Look.{partOf}
 use Rattle.scan.specs.Scan.{sectors}
 use Rattle.scan.proofs.Runs.{runOf, run-sectors}
@@ -35,7 +32,7 @@ use Rattle.scan.proofs.Parts.{sectors-part}
 use Rattle.hand.specs.Hand.{entriesAt}
 use Rattle.level.specs.Level.{usedOf, AllSmall}
 use Rattle.bucket.specs.Shapes.{Shape}
-use Rattle.climb.specs.Levels.{entriesOn, orEmpty, Read}
+use Rattle.climb.specs.Levels.{entriesOn, Read}
 
 -- byte 0 of a sector, as the card has it
 byte-first : (s : List ℕ) (i : ℕ) → getD (sectorAt s i) 0 0 ≡ getD s (16 * i) 0

@@ -1,20 +1,18 @@
 -- One level of the way up, as the code finds it: with room for what was sent, or rewritten.
-use mathlib.Core.Path.{_≡_, refl, ap, ap₂, sym, _∙_, subst}
-use mathlib.Core.Logic.{_⊎_, inl, inr, ⊎-elim}
-use mathlib.Core.Bool.{Bool, true, false}
-use mathlib.Core.Option.{Option, none, some}
-use mathlib.Core.List.{List, [], _∷_, _++_}
-use Prim.Native.Nat.{ℕ, zero, suc, _+_, _-_, _*_, _/_, _≤_, _<_}
+use mathlib.Core.Path.{_≡_, refl, ap, _∙_, subst}
+use mathlib.Core.Logic.{_⊎_, ⊎-elim}
+use mathlib.Core.Bool.{true, false}
+use mathlib.Core.List.{List, [], _∷_}
+use Prim.Native.Nat.{ℕ, _+_, _-_, _/_, _≤_, _<_}
 use native.Mathlib.Omega.{arith}
-use borrow.Author.Tests.{le-leb, lt-leb, lt-ltb, le-ltb}
-use lib.Dec.{leb, ltb}
-use lib.ListN.{length, take, drop, length-take, length-drop}
+use borrow.Author.Tests.{le-leb, lt-leb}
+use lib.Dec.{ltb}
+use lib.ListN.{length, take, drop}
 use Rattle.rules.specs.declared.Entry.{Entry}
 use Rattle.rules.specs.declared.Head.{Head}
-use Rattle.rules.specs.Plain.{if, andThen}
-use Rattle.rules.specs.Sector.{sectorAt, rootEntry}
-use Rattle.rules.specs.Layout.{base, sizeOf}
-use Rattle.rules.specs.Bucket.{bucket, log, blanksOf, logBlanks, run, soundLog}
+use Rattle.rules.specs.Plain.{andThen}
+use Rattle.rules.specs.Sector.{rootEntry}
+use Rattle.rules.specs.Bucket.{bucket, log, blanksOf, logBlanks, soundLog}
 use Rattle.rules.specs.Rewrite.{Rise, into, fill, oneBucket}
 use Rattle.rules.specs.Write.{place, placeIf, rooted, logged}
 use Rattle.laws.proofs.Tools.{bool-cases}
@@ -25,7 +23,7 @@ use Rattle.laws.proofs.Fresh.{placeIf-fresh, rooted-fresh}
 use Rattle.level.specs.Level.{pairsOf, needOf, sentList}
 use Rattle.level.specs.declared.Sent.{Sent}
 use Rattle.bucket.specs.Shapes.{Shape}
-use Rattle.climb.specs.Levels.{entriesOn, orEmpty, risen, visitOn, riseOn, topped, keptOn, limitOn, ownCard, Tally, tally, tallyAt, tallyIf, countOn, Read, AllRead, AllBelow, Ready}
+use Rattle.climb.specs.Levels.{entriesOn, risen, visitOn, riseOn, topped, keptOn, limitOn, ownCard, tally, tallyAt, tallyIf, countOn, Read, AllRead, AllBelow, Ready}
 use Rattle.climb.proofs.Laying.{renew-parts}
 
 -- nothing in hand goes no further

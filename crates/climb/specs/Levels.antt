@@ -1,5 +1,5 @@
 -- The way up as the code goes it: by bucket numbers, the lowest level first, each bucket read from the card when its turn comes.
-use Prim.Native.Nat.{ℕ, zero, suc, _+_, _-_, _/_, _≤_, _<_}
+use Prim.Native.Nat.{ℕ, _+_, _-_, _/_, _≤_, _<_}
 use mathlib.Core.Path.{_≡_}
 use mathlib.Core.Bool.{Bool, true, false}
 use mathlib.Core.List.{List, [], _∷_, _++_}
@@ -14,7 +14,6 @@ use Rattle.rules.specs.Walk.{Visit}
 use Rattle.rules.specs.Rewrite.{Rise, kept, keyOf, limitOf, into}
 use Rattle.rules.specs.Write.{placeIf, rooted}
 use Rattle.laws.proofs.Buckets.{raw}
-use Rattle.laws.proofs.Heads.{Lim}
 use Rattle.bucket.specs.Shapes.{Shape}
 use Rattle.level.specs.Level.{sentList, pairsOf, needOf, AllSmall}
 use Rattle.hand.specs.Hand.{held}

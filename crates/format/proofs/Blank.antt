@@ -1,9 +1,9 @@
 -- What format puts at the first blanks of a blank card, sector by sector.
-use mathlib.Core.Path.{_≡_, refl, ap, ap₂, sym, _∙_}
-use mathlib.Core.Bool.{Bool, true, false, not}
+use mathlib.Core.Path.{_≡_, refl, ap, _∙_}
+use mathlib.Core.Bool.{true, false}
 use mathlib.Core.Option.{some}
 use mathlib.Core.List.{List, [], _∷_}
-use Prim.Native.Nat.{ℕ, zero, suc, _+_, _-_, _*_, _≤_, _<_}
+use Prim.Native.Nat.{ℕ, zero, suc, _+_, _-_, _*_, _≤_}
 use native.Mathlib.Nat.{mul-add, mul-le-mul-right, mul-zero, mul-one}
 use native.Mathlib.Omega.{arith}
 use lib.Dec.{eqb}
@@ -15,7 +15,7 @@ use Rattle.rules.specs.Plain.{_&_, zeros}
 use Rattle.rules.specs.Sector.{sectorAt, put, encode, rootEntry, indexEntry}
 use Rattle.rules.specs.Layout.{limits, sizeOf, headBytes, base}
 use Rattle.rules.specs.Rewrite.{into}
-use Rattle.rules.specs.Write.{Plan, refuse, accept, refuseIf}
+use Rattle.rules.specs.Write.{refuse, accept, refuseIf}
 use Rattle.rules.specs.Format.{orElse, dummy, formatted, formatFor}
 use Rattle.laws.proofs.Tools.{and-true}
 use Rattle.laws.proofs.Sectors.{length-put, sector-put-other}

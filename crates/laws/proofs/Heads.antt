@@ -4,7 +4,7 @@ use mathlib.Core.Bool.{true, false}
 use mathlib.Core.Option.{some}
 use mathlib.Core.List.{List}
 use Prim.Native.Nat.{ℕ, suc, _+_, _*_, _-_, _≤_, _%_, _/_}
-use native.Mathlib.Nat.{mul-le-mul-left, mul-add, mul-suc, mul-comm}
+use native.Mathlib.Nat.{mul-le-mul, mul-le-mul-left, mul-add, mul-suc, mul-comm}
 use native.Mathlib.Omega.{arith}
 use lib.ListN.{length, getD}
 use lib.Dec.{leb, eqb}
@@ -100,3 +100,7 @@ head-length h = refl
 pub head-says : (h : Head) → zeros (headBytes h 0) ≡ false
 unfolding headBytes zeros
 head-says h = refl
+
+-- a bucket's first sector is a small number
+pub bucket-low : (m n b : ℕ) → m ≤ 32 → n ≤ 4096 → b ≤ n → m * (b - 1) ≤ 131072
+bucket-low m n b p q r = mul-le-mul {n₂ = 32} {m₂ = 4096} p (omega arith)

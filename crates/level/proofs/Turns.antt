@@ -1,7 +1,6 @@
 -- A turn and the end of each loop of a level, and what its choices say.
-use mathlib.Core.Path.{_≡_, refl, ap, sym, _∙_}
-use mathlib.Core.Bool.{Bool, true, false}
-use mathlib.Core.List.{List, [], _∷_, _++_}
+use mathlib.Core.Path.{_≡_, refl, ap}
+use mathlib.Core.List.{List, [], _∷_}
 use Prim.Native.Nat.{ℕ, zero, suc, _+_, _-_, _*_, _/_, _≤_, _<_}
 use native.Mathlib.Numerals.{add-one}
 use native.Mathlib.Omega.{arith}
@@ -11,7 +10,6 @@ use lib.ListN.{length, take, drop, getD, drop-of-length-le}
 use lib.Seq.{slice, slice-cons, slice-empty, length-take-le, getD-take}
 use Rattle.rules.specs.declared.Entry.{Entry}
 use Rattle.rules.specs.declared.Head.{Head}
-use Rattle.rules.specs.Plain.{if}
 use Rattle.rules.specs.Sector.{put, encode, sectorAt, fields, isIndex}
 use Rattle.rules.specs.Rewrite.{keyOf, pair, limitOf}
 use Rattle.hand.specs.Hand.{entriesAt}

@@ -7,8 +7,8 @@ use Rattle.rules.specs.declared.Sector.{Sector}
 use Rattle.rules.specs.declared.Sector.the-variants.{Blank, Held}
 use Rattle.rules.specs.Sector.{postEntry, strikeEntry, indexEntry, rootEntry}
 use Rattle.rules.specs.Answers.{answer, refused}
-use Rattle.rules.specs.Calls.{Call, formatCall, postCall, strikeCall, lookCall, nextCall}
-use Rattle.rules.specs.Cases.{Line, anew, says, holds, logs, used, shows, passes}
+use Rattle.rules.specs.Calls.{Call, formatCall, postCall, strikeCall, lookCall}
+use Rattle.rules.proofs.Lines.{Line, anew, says, holds, logs, used, shows, passes}
 
 abbrev post : ℕ → ℕ → ℕ → Sector
 post bib at time = Held (postEntry bib at time)

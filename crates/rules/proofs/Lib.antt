@@ -1,3 +1,4 @@
+pub mod Lines
 pub mod Opened
 pub mod Growing
 pub mod Session

@@ -5,7 +5,7 @@ use mathlib.Core.List.{List, [], _∷_, _++_}
 use lib.Dec.{T}
 use Rattle.rules.proofs.Opened.{rules}
 use Rattle.rules.specs.Bench.{text, bench}
-use Rattle.rules.specs.Cases.{same}
+use Rattle.rules.proofs.Lines.{same}
 
 -- each text with its newline
 abbrev sheet : List String → List ℕ

@@ -8,7 +8,7 @@ use mathlib.Core.Option.{Option, none, some}
 use lib.ListN.{length, replicate}
 use lib.Dec.{leb, ltb, eqb}
 use Rattle.rules.specs.declared.Answer.{Answer}
-use Rattle.rules.specs.Plain.{if, _&_, _or_, andThen, within}
+use Rattle.rules.specs.Plain.{if, andThen, within}
 use Rattle.rules.specs.Layout.{sizeOf}
 use Rattle.rules.specs.Answers.{refused}
 use Rattle.rules.specs.Write.{Plan, refuse, accept}

@@ -12,4 +12,3 @@ pub mod Format
 pub mod Calls
 pub mod Panel
 pub mod Bench
-pub mod Cases

@@ -1,29 +1,25 @@
 -- The walk with a counter is the rules' path and its length, and the look is the rules' look.
-use mathlib.Core.Path.{_≡_, refl, ap, ap₂, sym, _∙_, subst}
-use mathlib.Core.Bool.{Bool, true, false}
+use mathlib.Core.Path.{_≡_, refl, ap, _∙_}
+use mathlib.Core.Bool.{false}
 use mathlib.Core.Option.{Option, none, some}
 use Prim.Native.Nat.{ℕ, zero, suc, _+_}
 use native.Mathlib.Omega.{arith}
-use mathlib.Core.List.{List, [], _∷_, _++_}
+use mathlib.Core.List.{List, [], _∷_}
 use lib.ListN.{length}
-use lib.Dec.{leb, eqb}
 use Rattle.rules.specs.declared.Entry.{Entry}
 use Rattle.rules.specs.declared.Head.{Head}
-use Rattle.rules.specs.declared.Answer.{Answer}
-use Rattle.rules.specs.Answers.{refused, sheet}
+use Rattle.rules.specs.Answers.{sheet}
 use Rattle.rules.specs.Bucket.{bucket, log}
 use Rattle.rules.specs.Layout.{headOf}
 use Rattle.rules.specs.Look.{lookOn, lookIn, look}
-use Rattle.rules.specs.Plain.{if, andThen, lastOf}
+use Rattle.rules.specs.Plain.{andThen}
 use Rattle.rules.specs.Walk.{standsOn, Visit, Turn, broken, arrived, down, left, copyOf, turn, met, go, goIn, path, pathFrom, pathIn, walk, dataOf, standing}
-use Rattle.laws.proofs.Tools.{none-some}
 use Rattle.scan.specs.declared.Found.{Found}
 use Rattle.scan.specs.declared.Found.the-variants.{Damage, Nothing, Hit}
-use Rattle.scan.specs.declared.Way.{Way}
-use Rattle.scan.specs.declared.Way.the-variants.{Lost, Down, Absent, Copy}
+use Rattle.scan.specs.declared.Way.the-variants.{Lost, Down}
 use Rattle.scan.specs.declared.Trip.{Trip}
 use Rattle.scan.specs.Scan.{sectors, wayOf, searchLog}
-use Rattle.scan.specs.Look.{searchAt, trip, onward, walkScan, tripFrom, told, toldOf, lookScanIn, lookScan}
+use Rattle.scan.specs.Look.{trip, onward, walkScan, tripFrom, told, toldOf, lookScanIn, lookScan}
 use Rattle.scan.proofs.Picks.{hit}
 use Rattle.scan.proofs.Ways.{wayOn, wayIn, search-bucket, rootOf, lastLeft, search-log}
 

@@ -1,26 +1,25 @@
 -- The questions that next puts to one bucket are the rules' questions.
-use mathlib.Core.Path.{_≡_, refl, ap, ap₂, sym, _∙_, subst}
+use mathlib.Core.Path.{_≡_, refl, ap, sym, _∙_, subst}
 use mathlib.Core.Logic.{_⊎_, inl, inr, ⊎-elim}
 use mathlib.Core.Bool.{Bool, true, false, not}
 use mathlib.Core.Option.{Option, none, some}
-use Prim.Native.Nat.{ℕ, zero, suc, _+_, _*_, _-_, _≤_, _<_}
+use Prim.Native.Nat.{ℕ, _+_, _-_, _≤_, _<_}
 use native.Mathlib.Omega.{arith}
 use mathlib.Core.List.{List, [], _∷_, _++_, append-assoc}
 use lib.Dec.{leb, ltb, eqb}
-use borrow.Author.Tests.{leb-true, leb-false, eqb-true, eqb-false, le-leb, lt-leb, eq-eqb, ne-eqb, lt-ltb, le-ltb}
+use borrow.Author.Tests.{le-leb, lt-leb, eq-eqb, ne-eqb, lt-ltb, le-ltb}
 use Rattle.rules.specs.declared.Entry.{Entry}
 use Rattle.rules.specs.declared.Sector.{Sector}
 use Rattle.rules.specs.declared.Sector.the-variants.{Blank, Held, Damaged}
 use Rattle.rules.specs.Bucket.{onto}
 use Rattle.rules.specs.Next.{lasts, standingAbove}
-use Rattle.rules.specs.Plain.{if, _&_, keepIf, only, lastOf, smaller, smallest, isNone}
+use Rattle.rules.specs.Plain.{if, _&_, only, lastOf, smaller, smallest, isNone}
 use Rattle.rules.specs.Sector.{isIndex, isPost}
 use Rattle.rules.specs.Walk.{left, copyOf}
 use Rattle.laws.proofs.Tools.{le-or-lt, eq-or-ne, bool-cases, none-some}
-use Rattle.laws.proofs.Run.{onto-inv, Begins}
 use Rattle.laws.proofs.Lists.{only-append}
 use Rattle.scan.specs.declared.Found.{Found}
-use Rattle.scan.specs.declared.Found.the-variants.{Damage, Nothing, Hit}
+use Rattle.scan.specs.declared.Found.the-variants.{Nothing, Hit}
 use Rattle.scan.specs.Next.{under, above, aboveAt, pickUp, weigh, later, stands, unless, pickNext, standIn}
 use Rattle.scan.proofs.Runs.{nil, runOf, fold, fold-snoc}
 use Rattle.scan.proofs.Picks.{hit, left-in, left-out}

@@ -1,36 +1,33 @@
 -- The walks and rounds of next, as the loops run, are the rules' next.
-use mathlib.Core.Path.{_≡_, refl, ap, ap₂, sym, _∙_, subst}
-use mathlib.Core.Bool.{Bool, true, false}
+use mathlib.Core.Path.{_≡_, refl, ap, sym, _∙_}
+use mathlib.Core.Bool.{false}
 use mathlib.Core.Option.{Option, none, some}
 use Prim.Native.Nat.{ℕ, zero, suc, _+_}
 use mathlib.Core.List.{List, [], _∷_, _++_, append-assoc}
-use lib.Dec.{leb, ltb, eqb}
 use Rattle.rules.specs.declared.Entry.{Entry}
 use Rattle.rules.specs.declared.Head.{Head}
 use Rattle.rules.specs.declared.Answer.{Answer}
 use Rattle.rules.specs.declared.Sector.{Sector}
-use Rattle.rules.specs.Answers.{refused, ended}
+use Rattle.rules.specs.Answers.{refused}
 use Rattle.rules.specs.Bucket.{joins, run, soundBucket, bucket, log}
 use Rattle.rules.specs.Layout.{base, headOf}
-use Rattle.rules.specs.Next.{keyAbove, indexOn, standingAbove, Hop, final, again, hopTo, hopOr, hop, hopping, nextFrom, nextIn, next}
-use Rattle.rules.specs.Plain.{if, andThen, every, only, smallest}
+use Rattle.rules.specs.Next.{keyAbove, indexOn, standingAbove, final, hopTo, hopOr, hop, hopping, nextFrom, nextIn, next}
+use Rattle.rules.specs.Plain.{every, only, smallest}
 use Rattle.rules.specs.Sector.{isIndex}
-use Rattle.rules.specs.Walk.{Visit, Turn, broken, arrived, down, left, copyOf, turn, met, go, goIn, path, pathFrom, pathIn, walk, dataOf}
+use Rattle.rules.specs.Walk.{Visit, Turn, broken, arrived, down, left, copyOf, turn, met, go, goIn, path, pathFrom, walk, dataOf}
 use Rattle.laws.proofs.Tools.{none-some, then-inv, guard-true}
 use Rattle.scan.specs.declared.Found.{Found}
 use Rattle.scan.specs.declared.Found.the-variants.{Damage, Nothing, Hit}
-use Rattle.scan.specs.declared.Way.{Way}
-use Rattle.scan.specs.declared.Way.the-variants.{Lost, Down, Absent, Copy}
+use Rattle.scan.specs.declared.Way.the-variants.{Lost, Down}
 use Rattle.scan.specs.declared.Leg.{Leg}
-use Rattle.scan.specs.declared.Leg.the-variants.{Gone, Stand, Over}
+use Rattle.scan.specs.declared.Leg.the-variants.{Gone}
 use Rattle.scan.specs.Scan.{sectors, wayOf, searchLog}
-use Rattle.scan.specs.Look.{searchAt}
 use Rattle.scan.specs.Next.{pickUp, weigh, standIn, sectorsOf, legOf, stride, legScan, legFrom, leg, after, rounds, nextScanIn, nextScan}
 use Rattle.scan.proofs.Runs.{nil, runOf, run-sectors, fold}
 use Rattle.scan.proofs.Picks.{hit}
-use Rattle.scan.proofs.Ways.{wayOn, wayIn, search-bucket, rootOf, lastLeft, search-log}
+use Rattle.scan.proofs.Ways.{wayOn, wayIn, search-bucket, rootOf, search-log}
 use Rattle.scan.proofs.Looks.{Filled, path-filled, in-then}
-use Rattle.scan.proofs.Mins.{aboveIn, fold-up, standFold, stand-above, weigh-run, stand-run}
+use Rattle.scan.proofs.Mins.{aboveIn, fold-up, stand-above, weigh-run, stand-run}
 
 -- a bucket that is read is the run of its sectors
 sound-same : (xs es : List Entry) → soundBucket xs ≡ some es → xs ≡ es

@@ -1,19 +1,19 @@
 -- The best so far is the rules' choice among the entries so far.
-use mathlib.Core.Path.{_≡_, refl, ap, ap₂, sym, _∙_, subst}
-use mathlib.Core.Logic.{_⊎_, inl, inr, ⊎-elim}
-use mathlib.Core.Bool.{Bool, true, false}
+use mathlib.Core.Path.{_≡_, refl, sym}
+use mathlib.Core.Logic.{_⊎_, ⊎-elim}
+use mathlib.Core.Bool.{true, false}
 use mathlib.Core.Option.{Option, none, some}
-use Prim.Native.Nat.{ℕ, zero, suc, _+_, _*_, _-_, _≤_, _<_}
+use Prim.Native.Nat.{ℕ, _+_, _-_, _≤_, _<_}
 use mathlib.Core.List.{List, [], _∷_, _++_}
-use lib.Dec.{leb, eqb}
-use borrow.Author.Tests.{leb-true, leb-false, eqb-true, eqb-false, le-leb, lt-leb, eq-eqb, ne-eqb}
+use lib.Dec.{leb}
+use borrow.Author.Tests.{le-leb, lt-leb, eq-eqb, ne-eqb}
 use Rattle.rules.specs.declared.Entry.{Entry}
-use Rattle.rules.specs.Plain.{if, keepIf, only, lastOf, largest}
+use Rattle.rules.specs.Plain.{if, only, lastOf, largest}
 use Rattle.rules.specs.Walk.{left, follow, copyOf}
 use Rattle.laws.proofs.Tools.{le-or-lt, eq-or-ne}
 use Rattle.laws.proofs.Lists.{only-append, last-snoc, copy-snoc-same, copy-snoc-other, top, follow-snoc-in, follow-snoc-out}
 use Rattle.scan.specs.declared.Found.{Found}
-use Rattle.scan.specs.declared.Found.the-variants.{Damage, Nothing, Hit}
+use Rattle.scan.specs.declared.Found.the-variants.{Nothing, Hit}
 use Rattle.scan.specs.Scan.{over, below, same, choose, pick, pickRoot}
 use Rattle.scan.proofs.Runs.{nil, fold, fold-snoc}
 

@@ -1,9 +1,8 @@
 -- A scan gives what the run of its sectors gives.
-use mathlib.Core.Path.{_≡_, refl, ap, ap₂, sym, _∙_, subst}
-use mathlib.Core.Logic.{_⊎_, inl, inr, ⊎-elim}
+use mathlib.Core.Path.{_≡_, refl, ap, sym, _∙_}
 use mathlib.Core.Bool.{Bool, true, false}
 use mathlib.Core.Option.{Option, none, some}
-use Prim.Native.Nat.{ℕ, zero, suc, _+_, _*_, _-_, _≤_, _<_}
+use Prim.Native.Nat.{ℕ, zero, suc, _+_, _-_}
 use mathlib.Core.List.{List, [], _∷_, _++_, append-assoc}
 use Rattle.rules.specs.declared.Entry.{Entry}
 use Rattle.rules.specs.declared.Sector.{Sector}
@@ -11,7 +10,7 @@ use Rattle.rules.specs.declared.Sector.the-variants.{Blank, Held, Damaged}
 use Rattle.rules.specs.Bucket.{onto, run}
 use Rattle.rules.specs.Plain.{if, _&_, every}
 use Rattle.scan.specs.declared.Found.{Found}
-use Rattle.scan.specs.declared.Found.the-variants.{Damage, Nothing, Hit}
+use Rattle.scan.specs.declared.Found.the-variants.{Damage}
 use Rattle.scan.specs.Scan.{sectors, allBlank, scanIn}
 
 -- the run of sectors that are read

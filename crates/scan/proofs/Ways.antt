@@ -1,15 +1,15 @@
 -- One bucket's scan gives the rules' turn there, or the last copy; and the log's scan the rules' root.
-use mathlib.Core.Path.{_≡_, refl, ap, ap₂, sym, _∙_, subst}
+use mathlib.Core.Path.{_≡_, refl, ap, sym, _∙_}
 use mathlib.Core.Bool.{Bool, true, false}
 use mathlib.Core.Option.{Option, none, some}
-use Prim.Native.Nat.{ℕ, zero, suc, _+_}
-use mathlib.Core.List.{List, [], _∷_, _++_}
-use lib.Dec.{leb, eqb}
+use Prim.Native.Nat.{ℕ, zero, suc}
+use mathlib.Core.List.{List, [], _∷_}
+use lib.Dec.{eqb}
 use Rattle.rules.specs.declared.Entry.{Entry}
 use Rattle.rules.specs.declared.Head.{Head}
 use Rattle.rules.specs.declared.Sector.{Sector}
 use Rattle.rules.specs.declared.Sector.the-variants.{Blank, Held, Damaged}
-use Rattle.rules.specs.Bucket.{onto, run, joins, soundBucket, soundLog, bucket, log}
+use Rattle.rules.specs.Bucket.{onto, joins, soundBucket, soundLog, bucket, log}
 use Rattle.rules.specs.Layout.{base}
 use Rattle.rules.specs.Plain.{if, andThen, every, lastOf}
 use Rattle.rules.specs.Sector.{isIndex, isRoot}
@@ -17,8 +17,8 @@ use Rattle.rules.specs.Walk.{Turn, broken, arrived, down, left, follow, copyOf,
 use Rattle.scan.specs.declared.Found.{Found}
 use Rattle.scan.specs.declared.Found.the-variants.{Damage, Nothing, Hit}
 use Rattle.scan.specs.declared.Way.{Way}
-use Rattle.scan.specs.declared.Way.the-variants.{Lost, Down, Absent, Copy}
-use Rattle.scan.specs.Scan.{sectors, allBlank, scanIn, pick, wayOf, search, pickRoot, searchLog}
+use Rattle.scan.specs.declared.Way.the-variants.{Lost, Down}
+use Rattle.scan.specs.Scan.{sectors, allBlank, pick, wayOf, search, pickRoot, searchLog}
 use Rattle.scan.specs.Look.{searchAt}
 use Rattle.scan.proofs.Runs.{runOf, run-sectors, blank-run, fold, close, scan-close}
 use Rattle.scan.proofs.Picks.{hit, fold-index, fold-data, fold-root}

@@ -1,16 +1,13 @@
 -- A sector of sixteen bytes is what its four words say.
 use mathlib.Core.Path.{_≡_, refl, ap, ap₂, sym, _∙_, subst}
 use mathlib.Core.Bool.{Bool, true, false}
-use mathlib.Core.Logic.{⊎-elim}
-use Prim.Native.Nat.{ℕ, zero, suc, _+_, _*_, _-_, _≤_, _<_}
+use Prim.Native.Nat.{ℕ, zero, suc, _+_, _*_, _-_, _≤_}
 use native.Mathlib.Omega.{arith}
-use mathlib.Core.List.{List, [], _∷_, _++_}
+use mathlib.Core.List.{List, [], _∷_}
 use lib.ListN.{length, getD, take, drop, length-drop}
 use lib.Seq.{getD-drop, drop-drop, drop-length}
-use lib.Dec.{leb, eqb}
-use borrow.Author.Tests.{eqb-true, eq-eqb, ne-eqb}
-use Rattle.rules.specs.declared.Entry.{Entry}
-use Rattle.rules.specs.declared.Sector.{Sector}
+use lib.Dec.{eqb}
+use borrow.Author.Tests.{eqb-true, ne-eqb}
 use Rattle.rules.specs.declared.Sector.the-variants.{Blank, Held, Damaged}
 use Rattle.rules.specs.Plain.{if, _&_, zeros}
 use Rattle.rules.specs.Sector.{word, legal, fields, decode}

@@ -1,29 +1,27 @@
 -- The largest stamp bucket by bucket, and a bucket's as its part of the card gives it.
 use mathlib.Core.Path.{_≡_, refl, ap, ap₂, sym, _∙_}
-use mathlib.Core.Logic.{⊎-elim}
 use mathlib.Core.Bool.{Bool, true, false}
-use mathlib.Core.List.{List, [], _∷_, _++_}
+use mathlib.Core.List.{List, _++_}
 use Prim.Native.Nat.{ℕ, zero, suc, _+_, _-_, _*_, _≤_, _<_, max}
-use native.Mathlib.Nat.{max-zero, max-comm, max-eq-left, max-eq-right, mul-suc, mul-comm, suc-mul, add-sub-cancel-left}
+use native.Mathlib.Nat.{max-zero, max-comm, mul-comm, suc-mul, add-sub-cancel-left}
 use native.Mathlib.Numerals.{add-one}
 use native.Mathlib.Omega.{arith}
-use lib.Dec.{eqb}
 use lib.ListN.{length, take, drop, getD, length-drop, take-append-drop}
 use lib.Seq.{length-take-le, take-append-add, drop-drop}
 use borrow.Author.Tests.{eq-eqb}
 use Rattle.rules.specs.declared.Head.{Head}
-use Rattle.rules.specs.Plain.{if, _&_, zeros}
+use Rattle.rules.specs.Plain.{_&_, zeros}
 use Rattle.rules.specs.Sector.{sectorAt}
 use Rattle.rules.specs.Layout.{base}
 use Rattle.rules.specs.Bucket.{unwritten}
 use Rattle.rules.specs.Write.{stampOf, topStamp, topUsed}
-use Rattle.laws.proofs.Tools.{le-or-lt, and-true, bool-cases}
+use Rattle.laws.proofs.Tools.{and-true}
 use Rattle.laws.proofs.Heads.{bucket-fits}
 use Rattle.scan.specs.Look.{partOf}
+use Rattle.scan.proofs.Blanks.{zeros-append}
 use Rattle.scan.proofs.Parts.{sector-part}
 use Rattle.laws.proofs.Zeros.{zeros-get}
 use Rattle.bucket.specs.Shapes.{Shape}
-use Rattle.survey.specs.declared.Area.{Area}
 use Rattle.survey.specs.Survey.{surveyOf}
 
 max-assoc : (a b c : ℕ) → max a (max b c) ≡ max (max a b) c
@@ -63,12 +61,6 @@ stamp-split card i (suc a) c =
     let z : suc a + c ≡ suc (a + c) = omega arith in
     let y : i + suc a ≡ suc i + a = omega arith in
     rw (z, y) (ap (max (stampOf (sectorAt card i))) (stamp-split card (suc i) a c) ∙ max-assoc _ _ _)
-
-zeros-append : (xs ys : List ℕ) → zeros (xs ++ ys) ≡ (zeros xs & zeros ys)
-unfolding zeros
-zeros-append [] ys = refl
-zeros-append (zero ∷ xs) ys = zeros-append xs ys
-zeros-append (suc x ∷ xs) ys = refl
 
 -- a part is all zeros where none of its sectors is written
 part-zeros : (card : List ℕ) (i c : ℕ) → 16 * (i + c) ≤ length card → zeros (take (16 * c) (drop (16 * i) card)) ≡ unwritten card i c

@@ -1,21 +1,20 @@
 -- The track of a write is the rule's walk: its buckets in the order of the way up. A turn of its loop.
-use mathlib.Core.Path.{_≡_, refl, ap, sym, _∙_}
+use mathlib.Core.Path.{_≡_, refl, ap, _∙_}
 use mathlib.Core.Logic.{⊎-elim}
 use mathlib.Core.Bool.{false}
 use mathlib.Core.Option.{Option, none, some}
 use mathlib.Core.List.{List, [], _∷_}
 use Prim.Native.Nat.{ℕ, zero, suc, _+_, _-_, _≤_, _<_}
-use native.Mathlib.Numerals.{add-one}
 use native.Mathlib.Omega.{arith}
 use types.Run.{OneOf}
 use denote.Enum.Declared.{tagOf}
 use Rattle.scan.proofs.Found.{the-type}
-use lib.ListN.{length, drop, set, getD, length-set, drop-of-length-le}
+use lib.ListN.{length, drop, set, length-set, drop-of-length-le}
 use lib.Seq.{drop-cons, drop-set-lt, getD-set-same}
 use Rattle.rules.specs.declared.Entry.{Entry}
 use Rattle.rules.specs.declared.Head.{Head}
 use Rattle.rules.specs.Bucket.{bucket, log}
-use Rattle.rules.specs.Walk.{Visit, Turn, broken, arrived, down, left, copyOf, turn, met, go, goIn, path, pathFrom, pathIn, walk, dataOf}
+use Rattle.rules.specs.Walk.{Visit, Turn, broken, arrived, down, left, copyOf, turn, met, go, goIn, path, pathFrom, walk, dataOf}
 use Rattle.rules.specs.Write.{latest}
 use Rattle.scan.specs.declared.Found.{Found}
 use Rattle.scan.specs.declared.Found.the-variants.{Damage, Nothing, Hit}
@@ -24,7 +23,7 @@ use Rattle.scan.specs.declared.Way.the-variants.{Lost, Down, Absent, Copy}
 use Rattle.scan.specs.Scan.{sectors, wayOf, searchLog}
 use Rattle.scan.specs.Look.{searchAt}
 use Rattle.scan.proofs.Picks.{hit}
-use Rattle.scan.proofs.Ways.{wayOn, wayIn, search-bucket, rootOf, lastLeft, search-log}
+use Rattle.scan.proofs.Ways.{wayOn, wayIn, search-bucket, rootOf, search-log}
 use Rattle.scan.proofs.Looks.{Filled, path-filled, in-then}
 use Rattle.climb.specs.Levels.{upward}
 use Rattle.trail.specs.declared.Trail.{Trail}

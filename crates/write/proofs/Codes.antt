@@ -1,25 +1,22 @@
 -- The refusals of a write in their order, as its functions give them.
 use mathlib.Core.Path.{_≡_, refl, ap, sym, _∙_}
-use mathlib.Core.Logic.{_⊎_, inl, inr, ⊎-elim}
-use mathlib.Core.Bool.{Bool, true, false, not}
+use mathlib.Core.Logic.{_⊎_, ⊎-elim}
+use mathlib.Core.Bool.{true, false, not}
 use mathlib.Core.Option.{Option, none, some}
 use mathlib.Core.List.{List, []}
 use Prim.Native.Nat.{ℕ, zero, suc, _≤_, _<_}
 use native.Mathlib.Omega.{arith}
-use lib.Dec.{leb, eqb}
+use lib.Dec.{eqb}
 use borrow.Author.Tests.{eq-eqb, ne-eqb, le-leb, lt-leb}
 use Rattle.rules.specs.declared.Entry.{Entry}
 use Rattle.rules.specs.declared.Head.{Head}
-use Rattle.rules.specs.declared.Answer.{Answer}
-use Rattle.rules.specs.Plain.{if, _&_, isNone}
+use Rattle.rules.specs.Plain.{_&_, isNone}
 use Rattle.rules.specs.Sector.{isPost}
 use Rattle.rules.specs.Layout.{headOf}
 use Rattle.rules.specs.Walk.{Visit, walk, standing, standsOn, copyOf, left, dataOf}
-use Rattle.rules.specs.Answers.{refused}
-use Rattle.rules.specs.Write.{Plan, refuse, accept, refuseIf, planAnswer, planCard, planOn, planAt, planFor, plan, stampOn, latest}
+use Rattle.rules.specs.Write.{Plan, refuse, refuseIf, planOn, planAt, planFor, plan, stampOn, latest}
 use Rattle.laws.proofs.Tools.{bool-cases}
 use Rattle.scan.specs.declared.Found.{Found}
-use Rattle.scan.specs.declared.Found.the-variants.{Damage, Nothing, Hit}
 use Rattle.scan.proofs.Picks.{hit}
 use Rattle.trail.proofs.Tracks.{trackIn}
 use Rattle.climb.specs.Levels.{upward}

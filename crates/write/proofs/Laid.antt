@@ -1,31 +1,31 @@
 -- A write's plan, by what the count foretells: too full, or the card that the way up leaves.
-use mathlib.Core.Path.{_≡_, refl, ap, ap₂, sym, _∙_, subst}
-use mathlib.Core.Logic.{_⊎_, inl, inr, ⊎-elim}
-use mathlib.Core.Bool.{Bool, true, false, not}
+use mathlib.Core.Path.{_≡_, refl, ap, sym, _∙_, subst}
+use mathlib.Core.Logic.{_⊎_, ⊎-elim}
+use mathlib.Core.Bool.{Bool, true, false}
 use mathlib.Core.Option.{Option, none, some}
-use mathlib.Core.List.{List, [], _∷_, _++_}
-use Prim.Native.Nat.{ℕ, zero, suc, _+_, _-_, _*_, _≤_, _<_}
+use mathlib.Core.List.{List, [], _∷_}
+use Prim.Native.Nat.{ℕ, _+_, _-_, _≤_, _<_}
 use native.Mathlib.Omega.{arith}
-use lib.Dec.{leb, ltb, eqb}
+use lib.Dec.{ltb, eqb}
 use lib.ListN.{length}
 use borrow.Author.Tests.{lt-ltb, le-ltb, ltb-false, eq-eqb, ne-eqb}
 use Rattle.rules.specs.declared.Entry.{Entry}
 use Rattle.rules.specs.declared.Head.{Head}
-use Rattle.rules.specs.Plain.{if, _&_, _or_}
+use Rattle.rules.specs.Plain.{_&_, _or_}
 use Rattle.rules.specs.Layout.{headOf}
 use Rattle.rules.specs.Bucket.{bucket, log, logBlanks}
 use Rattle.rules.specs.Walk.{Visit, walk, pathIn}
 use Rattle.rules.specs.Rewrite.{Rise, oneBucket}
-use Rattle.rules.specs.Write.{Plan, refuse, accept, refuseIf, climb, rooted, logged, logFull, checked, finish, planOn, topUsed, latest}
+use Rattle.rules.specs.Write.{refuse, accept, refuseIf, climb, rooted, logged, logFull, checked, finish, planOn, topUsed, latest}
 use Rattle.laws.proofs.Tools.{none-some, le-or-lt, eq-or-ne}
 use Rattle.laws.proofs.Run.{blanks-agree}
-use Rattle.laws.proofs.Paths.{Along, walk-reads}
-use Rattle.laws.proofs.Used.{used-top, top-raw, used-within}
+use Rattle.laws.proofs.Paths.{Along, along-map, walk-reads}
+use Rattle.laws.proofs.Used.{used-top, top-raw}
 use Rattle.laws.proofs.AsMet.{front-met}
 use Rattle.laws.proofs.Fresh.{rooted-fresh}
 use Rattle.bucket.specs.Shapes.{Shape}
 use Rattle.bucket.proofs.Room.{shape-of}
-use Rattle.climb.specs.Levels.{entriesOn, orEmpty, risen, riseOn, topped, Tally, tally, countOn, freshOver, isOpen, needsOf, upward, Read, AllRead, AllBelow, Ready}
+use Rattle.climb.specs.Levels.{entriesOn, orEmpty, risen, riseOn, topped, Tally, tally, countOn, freshOver, isOpen, needsOf, upward, AllRead, AllBelow, Ready}
 use Rattle.scan.specs.Look.{logOf}
 use Rattle.level.specs.Level.{usedOf}
 use Rattle.climb.proofs.Climbing.{rise-climb, foretells, tallyOf}
@@ -62,10 +62,6 @@ unfolding upward
 below-up h card f [] above a r = r
 below-up h card f (v ∷ p) above a r = below-up h card f p (v .number ∷ above) (a .1) (a .0, r)
 
-along-to : (P Q : Visit → Type 0) → ((v : Visit) → P v → Q v) → (p : List Visit) → Along P p → Along Q p
-along-to P Q f [] a = tt
-along-to P Q f (v ∷ p) a = (f v (a .0), along-to P Q f p (a .1))
-
 none-path : (rd : ℕ → Option (List Entry)) (t x f : ℕ) → pathIn rd t x f none ≡ none
 unfolding pathIn
 none-path rd t x f = refl
@@ -98,7 +94,7 @@ module _ (h : Head) (card : List ℕ) (hq : headOf card ≡ some h) (e : Entry) 
       record {
         shape = sh;
         reads = reads-up h card p [] rd tt;
-        below = below-up h card first p [] (along-to _ _ (λ v q. let k = used-top h card (v .number) (v .entries) (sh .long) q in omega arith) p rd) tt;
+        below = below-up h card first p [] (along-map (λ v. bucket h card (v .number) ≡ some (v .entries)) (λ v. v .number < first) (λ v q. let k = used-top h card (v .number) (v .entries) (sh .long) q in omega arith) p rd) tt;
         least = omega arith;
         free = λ c a b. top-raw h card c (omega arith) b;
         logs = walk-log h card latest (e .key) p w;

@@ -1,3 +1,4 @@
+-- The part lies on the card, and nothing wraps on the way to it.
 use native.Mathlib.Omega.{arith}
 use native.Mathlib.Nat.{add-sub-cancel-left}
 use lib.ListN.{length-take, length-drop}

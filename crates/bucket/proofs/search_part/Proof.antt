@@ -1,3 +1,4 @@
+-- The header decides, or the scan behind it does.
 use Prim.Native.Nat.{_-_}
 use mathlib.Core.Path.{_≡_}
 use native.Mathlib.Omega.{arith}

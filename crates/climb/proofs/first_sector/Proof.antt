@@ -1,9 +1,9 @@
 -- `climb::first_sector` is where a bucket begins.
+use Rattle.laws.proofs.Heads.{bucket-low}
 use borrow.Author.Needs.{needs}
 use mathlib.Core.Path.{refl}
 use native.Mathlib.Omega.{arith}
 use Rattle.rules.specs.Layout.{base}
-use Rattle.climb.proofs.Counting.{base-small}
 use Rattle.climb.proofs.first_sector.Statement.{statement}
 use Rattle.climb.proofs.first_sector.Tie as tie
 
@@ -14,10 +14,10 @@ sub-result : tie.Need-sub-result
 sub-result c = search needs
 
 mul-result : tie.Need-mul-result
-mul-result c = let k = base-small (c .before .before .args .head .m) (c .before .before .args .head .n) (c .before .before .args .b) (search needs) (search needs) (search needs) in omega arith
+mul-result c = let k = bucket-low (c .before .before .args .head .m) (c .before .before .args .head .n) (c .before .before .args .b) (search needs) (search needs) (search needs) in omega arith
 
 add-result-2 : tie.Need-add-result-2
-add-result-2 c = let k = base-small (c .before .before .args .head .m) (c .before .before .args .head .n) (c .before .before .args .b) (search needs) (search needs) (search needs) in omega arith
+add-result-2 c = let k = bucket-low (c .before .before .args .head .m) (c .before .before .args .head .n) (c .before .before .args .b) (search needs) (search needs) (search needs) in omega arith
 
 returns : tie.Need-returns
 unfolding base

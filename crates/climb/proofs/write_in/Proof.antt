@@ -7,11 +7,10 @@ use lib.ListN.{length}
 use mathlib.Core.Path.{ap₂}
 use Rattle.rules.specs.Layout.{base}
 use Rattle.level.specs.Level.{sentList, puts}
-use Rattle.laws.proofs.Heads.{bucket-fits}
+use Rattle.laws.proofs.Heads.{bucket-low, bucket-fits}
 use Rattle.climb.specs.Levels.{entriesOn}
 use Rattle.climb.proofs.Reading.{reads}
 use Rattle.climb.proofs.Laying.{into-puts}
-use Rattle.climb.proofs.Counting.{base-small}
 use Rattle.climb.proofs.write_in.Statement.{statement}
 use Rattle.climb.proofs.write_in.Tie as tie
 
@@ -24,7 +23,7 @@ add-write-sent c =
     let o = c .before .before .before in
     let rd = reads (o .args .head) (o .args .card .now) (o .args .b) (o .pre .0 .0) (o .pre .0 .1) in
     let l = o .pre .0 .0 .lim in
-    let k = base-small (o .args .head .m) (o .args .head .n) (o .args .b) (l .m32) (l .n4096) (rd .most) in
+    let k = bucket-low (o .args .head .m) (o .args .head .n) (o .args .b) (l .m32) (l .n4096) (rd .most) in
     omega (arith, c .before .first-sector .ensures, o .pre .1)
 
 write-sent-requires : tie.Need-write-sent-requires

@@ -1,3 +1,4 @@
+-- With f walks left from x on the answer is that of all walks; x rises, so f is never spent.
 use Prim.Native.Nat.{ℕ, _≤_, _<_, _+_, _-_}
 use mathlib.Core.Path.{_≡_, refl, _∙_}
 use native.Mathlib.Omega.{arith}

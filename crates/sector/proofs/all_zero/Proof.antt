@@ -1,3 +1,4 @@
+-- The bytes seen are all zero where the largest of them is, and the rest decides the rest.
 use Prim.Native.Nat.{_≤_, _-_}
 use mathlib.Core.Path.{_≡_, refl}
 use native.Mathlib.Omega.{arith}

@@ -1,3 +1,4 @@
+-- Row by row of the table, each return one test of the rule.
 use borrow.Author.Tests.{eq-eqb, ne-eqb, le-leb, lt-leb}
 use Rattle.rules.specs.Sector.{legal}
 use borrow.Author.Needs.{needs}

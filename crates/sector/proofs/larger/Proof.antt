@@ -1,5 +1,4 @@
 use Rattle.sector.proofs.Zeros.{larger-right, larger-left}
-use borrow.Author.Needs.{needs}
 use Rattle.sector.proofs.larger.Statement.{statement}
 use Rattle.sector.proofs.larger.Tie as tie
 

@@ -1,3 +1,4 @@
+-- What is left of the walk from bucket b, with the buckets counted so far, gives what the whole walk gives.
 use Prim.Native.Nat.{_≤_, _+_, _-_}
 use mathlib.Core.Path.{_≡_}
 use native.Mathlib.Nat.{sub-zero}

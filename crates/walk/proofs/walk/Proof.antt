@@ -1,3 +1,4 @@
+-- The root entry that was found is where the walk starts; it names a bucket of the card.
 use mathlib.Core.Path.{sym, _∙_}
 use denote.Ref.{now}
 use Rattle.scan.specs.Look.{tripFrom}

@@ -1,3 +1,4 @@
+-- A copy at sector i, or what is left behind it, gives what the whole rest gives.
 use Prim.Native.Nat.{_≤_, _+_, _-_}
 use mathlib.Core.Path.{_≡_, refl, _∙_}
 use mathlib.Core.List.{_∷_}

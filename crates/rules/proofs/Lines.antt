@@ -1,21 +1,20 @@
 -- A list of lines that the rules are held to: calls with their answers, buckets with their sectors, times with their digits.
-use Prim.Native.Nat.{ℕ, zero, suc, _+_}
+use Prim.Native.Nat.{ℕ, suc}
 use mathlib.Core.Bool.{Bool, true, false}
 use mathlib.Core.List.{List, [], _∷_}
 use mathlib.Core.Option.{Option, none, some}
 use lib.Dec.{eqb}
-use Rattle.rules.specs.declared.Entry.{Entry}
 use Rattle.rules.specs.declared.Head.{Head}
 use Rattle.rules.specs.declared.Sector.{Sector}
 use Rattle.rules.specs.declared.Sector.the-variants.{Blank, Held, Damaged}
 use Rattle.rules.specs.declared.Answer.{Answer}
 use Rattle.rules.specs.declared.Digits.{Digits}
-use Rattle.rules.specs.Plain.{if, _&_}
+use Rattle.rules.specs.Plain.{_&_}
 use Rattle.rules.specs.Sector.{sectorAt, decode}
 use Rattle.rules.specs.Layout.{headOf, base}
 use Rattle.rules.specs.Write.{topUsed}
 use Rattle.rules.specs.Panel.{panel}
-use Rattle.rules.specs.Calls.{Call, Done}
+use Rattle.rules.specs.Calls.{Call}
 use Rattle.rules.specs.Bench.{benchCall}
 
 -- no card any more; a call and its answer; a bucket and its m sectors; the log's first sectors; the highest bucket written; a time, a field, the number and places it gives

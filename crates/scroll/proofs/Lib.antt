@@ -1,0 +1,3 @@
+mod Rolls
+pub mod Ends
+pub mod Session

@@ -1,0 +1,29 @@
+use borrow.Author.Needs.{needs}
+use denote.Ref.{now}
+use Rattle.scroll.proofs.Rolls.{records-all, records-none}
+use Rattle.scroll.proofs.records.Statement.{statement}
+use Rattle.scroll.proofs.records.Tie as tie
+
+counted-requires : tie.Need-counted-requires
+counted-requires c κs = search needs
+
+lay-requires : tie.Need-lay-requires
+lay-requires c κs = search needs
+
+same-length : tie.Need-same-length
+same-length c = search needs
+
+returns : tie.Need-returns
+returns c =
+    let begun = c .before .before .before .before .before .before in
+    let a = begun .before .before .before .args in
+    records-all (now (a .card)) (a .at) _ (a .bib) (now (a .out)) (begun .counted .result) (begun .counted .ensures .0) _ (search needs) (c .before .before .lay .ensures)
+
+returns-2 : tie.Need-returns-2
+returns-2 c =
+    let begun = c .before .before in
+    let a = begun .before .before .before .args in
+    records-none (now (a .card)) (a .at) _ (a .bib) (now (a .out)) (begun .counted .result) (begun .counted .ensures .0) (search needs)
+
+pub records-spec : {M : Type 1} → statement M
+records-spec = tie.close (tie.spec counted-requires lay-requires same-length returns returns-2)

@@ -1,0 +1,2 @@
+pub mod Scroll
+pub mod Records
