@@ -1,20 +1,19 @@
 -- How long a line of the grammar can be: none has 128 bytes, so the first 128 bytes of a line are enough to read it.
 use mathlib.Core.Path.{_≡_, refl, sym, ap, _∙_}
 use mathlib.Core.Logic.{⊎-elim}
-use mathlib.Core.Bool.{Bool, true, false}
+use mathlib.Core.Bool.{true, false}
 use mathlib.Core.List.{List, [], _∷_}
 use mathlib.Core.Option.{Option, none, some}
-use Prim.Native.Nat.{ℕ, zero, suc, _+_, _*_, _-_, _^_, _≤_, _<_}
+use Prim.Native.Nat.{ℕ, suc, _+_, _*_, _-_, _^_, _≤_, _<_}
 use native.Mathlib.Omega.{arith}
-use native.Mathlib.Nat.{pow-suc, pow-zero, pow-le-pow-right}
-use lib.ListN.{length, take, length-take}
+use native.Mathlib.Nat.{pow-suc, pow-le-pow-right}
+use lib.ListN.{length, take}
 use lib.Seq.{take-all, length-take-le}
 use lib.Dec.{leb, eqb}
 use borrow.Author.Tests.{leb-true, eqb-false}
-use Rattle.rules.specs.Plain.{if, andThen, within}
-use Rattle.rules.specs.Calls.{Call}
+use Rattle.rules.specs.Plain.{within}
 use Rattle.rules.specs.Bench.{text, behind, isDigit, digits, beyond, numberOn, upTo32, number, numbers, formatNames, postNames, strikeNames, lookNames, nextNames, orTry, parsed}
-use Rattle.laws.proofs.Tools.{bool-cases, le-or-lt, and-true, false-true, guard-true, none-some, then-inv}
+use Rattle.laws.proofs.Tools.{bool-cases, le-or-lt, and-true, guard-true, none-some, then-inv}
 
 -- a name and what is behind it
 behind-length : (name l rest : List ℕ) → behind name l ≡ some rest → length l ≡ length name + length rest

@@ -1,7 +1,7 @@
 -- `line::after` finds a name where the rules find it.
 use borrow.Author.Needs.{needs}
 use mathlib.Core.Path.{_≡_}
-use Prim.Native.Nat.{_≤_, _-_}
+use Prim.Native.Nat.{_≤_, _-_, _<_}
 use native.Mathlib.Omega.{arith}
 use denote.Ref.{now}
 use lib.ListN.{length, drop}
@@ -36,8 +36,9 @@ returns-2 : tie.Need-returns-2 Inv-loop μ-loop
 unfolding restAt endOf
 returns-2 c =
     let l = c .before .before .before .before .before in
-    let h = c .before .before .before .before .loop-test .taken in
-    (name-other (now (l .before .args .line)) (now (l .before .args .name)) (l .loop .e) (l .loop .i) _ (l .loop .inv .2) h (omega (arith, l .loop .inv .1, c .before .before .before .if1 .left)) (c .if2 .taken), search needs)
+    let a = l .before .args in
+    let here : l .loop .e < length (now (a .line)) = omega (arith, l .loop .inv .1, c .before .before .before .if1 .left) in
+    (name-other (now (a .line)) (now (a .name)) (l .loop .e) (l .loop .i) _ (l .loop .inv .2) (c .before .before .before .before .loop-test .taken) here (c .if2 .taken), search needs)
 
 add-i : tie.Need-add-i Inv-loop μ-loop
 add-i c = search needs
@@ -51,8 +52,12 @@ loop-less c = search needs
 loop-again : tie.Need-loop-again Inv-loop μ-loop
 loop-again c =
     let l = c .before .before .before .before .before in
-    let h = c .before .before .before .before .loop-test .taken in
-    (search needs, search needs, name-more (now (l .before .args .line)) (now (l .before .args .name)) (l .loop .e) (l .loop .i) _ (l .loop .inv .2) h (omega (arith, l .loop .inv .1, c .before .before .before .if1 .left)) (c .if2 .left))
+    let a = l .before .args in
+    let here : l .loop .e < length (now (a .line)) = omega (arith, l .loop .inv .1, c .before .before .before .if1 .left) in (
+      search needs,
+      search needs,
+      name-more (now (a .line)) (now (a .name)) (l .loop .e) (l .loop .i) _ (l .loop .inv .2) (c .before .before .before .before .loop-test .taken) here (c .if2 .left),
+    )
 
 returns-3 : tie.Need-returns-3 Inv-loop μ-loop
 unfolding restAt endOf

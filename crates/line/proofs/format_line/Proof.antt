@@ -29,7 +29,9 @@ returns : tie.Need-returns
 unfolding text formatNames requestOf
 returns c =
     let line = now (c .before .before .before .before .before .args .line) in
-    rw (numbers-none line (text "op=format buckets=") (text " sectors=" ∷ text " td=" ∷ text " ti=" ∷ []) 0 _ (c .before .before .field .ensures .0) (c .enum-told .given .1))
+    let first = text "op=format buckets=" in
+    let others = text " sectors=" ∷ text " td=" ∷ text " ti=" ∷ [] in
+    rw (numbers-none line first others 0 _ (c .before .before .field .ensures .0) (c .enum-told .given .1))
 
 slice-aggregate-field-2 : tie.Need-slice-aggregate-field-2
 slice-aggregate-field-2 c = search needs
@@ -47,10 +49,15 @@ enum-told-2 c = search needs
 returns-2 : tie.Need-returns-2
 unfolding text formatNames requestOf
 returns-2 c =
-    let line = now (c .before .before .before .before .before .before .before .before .before .before .args .line) in
     let n = c .before .before .before .before .before .n .given in
-    let one = numbers-more line (text "op=format buckets=") (text " sectors=" ∷ text " td=" ∷ text " ti=" ∷ []) 0 _ (c .before .before .before .before .before .before .before .field .ensures .0) (n .0 .0) (n .0 .1 .0) (n .1) in
-    rw (one, numbers-none line (text " sectors=") (text " td=" ∷ text " ti=" ∷ []) (n .0 .1 .0) _ (c .before .before .field2 .ensures .0) (c .enum-told2 .given .1))
+    let read = c .before .before .before .before .before .before .before in
+    let line = now (read .before .before .before .args .line) in
+    let first = text "op=format buckets=" in
+    let others = text " sectors=" ∷ text " td=" ∷ text " ti=" ∷ [] in
+    let second = text " sectors=" in
+    let last = text " td=" ∷ text " ti=" ∷ [] in
+    let one = numbers-more line first others 0 _ (read .field .ensures .0) (n .0 .0) (n .0 .1 .0) (n .1) in
+    rw (one, numbers-none line second last (n .0 .1 .0) _ (c .before .before .field2 .ensures .0) (c .enum-told2 .given .1))
 
 slice-aggregate-pair-at : tie.Need-slice-aggregate-pair-at
 slice-aggregate-pair-at c = search needs
@@ -71,21 +78,33 @@ enum-told-3 c = search needs
 returns-3 : tie.Need-returns-3
 unfolding text formatNames requestOf callOf
 returns-3 c =
-    let line = now (c .before .before .before .before .before .before .before .before .before .before .before .before .before .before .before .before .args .line) in
-    let n = c .before .before .before .before .before .before .before .before .before .before .before .n .given in
+    let read2 = c .before .before .before .before .before .before .before .before in
+    let read = read2 .before .before .before .before .before in
+    let line = now (read .before .before .before .args .line) in
     let m = c .before .before .before .before .before .before .m .given in
-    let one = numbers-more line (text "op=format buckets=") (text " sectors=" ∷ text " td=" ∷ text " ti=" ∷ []) 0 _ (c .before .before .before .before .before .before .before .before .before .before .before .before .before .field .ensures .0) (n .0 .0) (n .0 .1 .0) (n .1) in
-    let two = numbers-more line (text " sectors=") (text " td=" ∷ text " ti=" ∷ []) (n .0 .1 .0) _ (c .before .before .before .before .before .before .before .before .field2 .ensures .0) (m .0 .0) (m .0 .1 .0) (m .1) in
+    let n = read2 .before .before .before .n .given in
+    let first = text "op=format buckets=" in
+    let others = text " sectors=" ∷ text " td=" ∷ text " ti=" ∷ [] in
+    let second = text " sectors=" in
+    let last = text " td=" ∷ text " ti=" ∷ [] in
+    let one = numbers-more line first others 0 _ (read .field .ensures .0) (n .0 .0) (n .0 .1 .0) (n .1) in
+    let two = numbers-more line second last (n .0 .1 .0) _ (read2 .field2 .ensures .0) (m .0 .0) (m .0 .1 .0) (m .1) in
     rw (one, two, four-of formatCall (n .0 .0) (m .0 .0), ← c .before .before .pair-at .ensures, c .enum-told3 .given .1)
 
 returns-4 : tie.Need-returns-4
 unfolding text formatNames requestOf callOf
 returns-4 c =
-    let line = now (c .before .before .before .before .before .before .before .before .before .before .before .before .before .before .before .before .before .args .line) in
-    let n = c .before .before .before .before .before .before .before .before .before .before .before .before .n .given in
+    let read2 = c .before .before .before .before .before .before .before .before .before in
+    let read = read2 .before .before .before .before .before in
+    let line = now (read .before .before .before .args .line) in
     let m = c .before .before .before .before .before .before .before .m .given in
-    let one = numbers-more line (text "op=format buckets=") (text " sectors=" ∷ text " td=" ∷ text " ti=" ∷ []) 0 _ (c .before .before .before .before .before .before .before .before .before .before .before .before .before .before .field .ensures .0) (n .0 .0) (n .0 .1 .0) (n .1) in
-    let two = numbers-more line (text " sectors=") (text " td=" ∷ text " ti=" ∷ []) (n .0 .1 .0) _ (c .before .before .before .before .before .before .before .before .before .field2 .ensures .0) (m .0 .0) (m .0 .1 .0) (m .1) in
+    let n = read2 .before .before .before .n .given in
+    let first = text "op=format buckets=" in
+    let others = text " sectors=" ∷ text " td=" ∷ text " ti=" ∷ [] in
+    let second = text " sectors=" in
+    let last = text " td=" ∷ text " ti=" ∷ [] in
+    let one = numbers-more line first others 0 _ (read .field .ensures .0) (n .0 .0) (n .0 .1 .0) (n .1) in
+    let two = numbers-more line second last (n .0 .1 .0) _ (read2 .field2 .ensures .0) (m .0 .0) (m .0 .1 .0) (m .1) in
     rw (one, two, four-of formatCall (n .0 .0) (m .0 .0), ← c .before .before .before .pair-at .ensures, c .before .p .given .1)
 
 pub format-line-spec : {M : Type 1} → statement M

@@ -40,7 +40,11 @@ enum-known-l c = search needs
 
 returns-2 : tie.Need-returns-2
 unfolding text strikeNames lookNames nextNames requestOf otherCall orTry callOf
-returns-2 c = rw (two-of strikeCall, two-of lookCall, ← c .before .before .before .before .before .before .before .before .pair-at .ensures, ← c .before .before .before .pair-at2 .ensures, c .before .before .before .before .before .before .enum-told .given .1, c .before .l .given .1)
+returns-2 c =
+    let look = c .before .before .before in
+    let strike = look .before .before .before .before .before in
+    rw (two-of strikeCall, two-of lookCall, ← strike .pair-at .ensures, ← look .pair-at2 .ensures)
+    (rw (look .before .before .before .enum-told .given .1, c .before .l .given .1))
 
 enum-told-2 : tie.Need-enum-told-2
 enum-told-2 c = search needs
@@ -59,14 +63,24 @@ enum-known-n c = search needs
 
 returns-3 : tie.Need-returns-3
 unfolding text strikeNames lookNames nextNames requestOf otherCall orTry callOf
-returns-3 c = rw (two-of strikeCall, two-of lookCall, two-of nextCall, ← c .before .before .before .before .before .before .before .before .before .before .before .before .before .pair-at .ensures, ← c .before .before .before .before .before .before .before .before .pair-at2 .ensures, ← c .before .before .before .pair-at3 .ensures, c .before .before .before .before .before .before .before .before .before .before .before .enum-told .given .1, c .before .before .before .before .before .before .enum-told2 .given .1, c .before .n .given .1)
+returns-3 c =
+    let next = c .before .before .before in
+    let look = next .before .before .before .before .before in
+    let strike = look .before .before .before .before .before in
+    rw (two-of strikeCall, two-of lookCall, two-of nextCall, ← strike .pair-at .ensures, ← look .pair-at2 .ensures, ← next .pair-at3 .ensures)
+    (rw (look .before .before .before .enum-told .given .1, next .before .before .before .enum-told2 .given .1, c .before .n .given .1))
 
 enum-told-3 : tie.Need-enum-told-3
 enum-told-3 c = search needs
 
 returns-4 : tie.Need-returns-4
 unfolding text strikeNames lookNames nextNames requestOf otherCall orTry callOf
-returns-4 c = rw (two-of strikeCall, two-of lookCall, two-of nextCall, ← c .before .before .before .before .before .before .before .before .before .before .before .before .pair-at .ensures, ← c .before .before .before .before .before .before .before .pair-at2 .ensures, ← c .before .before .pair-at3 .ensures, c .before .before .before .before .before .before .before .before .before .before .enum-told .given .1, c .before .before .before .before .before .enum-told2 .given .1, c .enum-told3 .given .1)
+returns-4 c =
+    let next = c .before .before in
+    let look = next .before .before .before .before .before in
+    let strike = look .before .before .before .before .before in
+    rw (two-of strikeCall, two-of lookCall, two-of nextCall, ← strike .pair-at .ensures, ← look .pair-at2 .ensures, ← next .pair-at3 .ensures)
+    (rw (look .before .before .before .enum-told .given .1, next .before .before .before .enum-told2 .given .1, c .enum-told3 .given .1))
 
 pub other-line-spec : {M : Type 1} → statement M
 other-line-spec =

@@ -20,8 +20,10 @@ returns : tie.Need-returns
 unfolding parsed otherCall
 returns c =
     let line = now (c .before .before .before .args .line) in
+    let format = andThen (numbers formatNames line) (four formatCall) in
+    let post = andThen (numbers postNames line) (three postCall) in
     let f = c .before .format-line .ensures in
-    f ∙ request-first (andThen (numbers formatNames line) (four formatCall)) (orTry (andThen (numbers postNames line) (three postCall)) (otherCall line)) (rw f at (c .match .keys2))
+    f ∙ request-first format (orTry post (otherCall line)) (rw f at (c .match .keys2))
 
 post-line-requires : tie.Need-post-line-requires
 post-line-requires c κs = search needs
@@ -33,9 +35,11 @@ returns-2 : tie.Need-returns-2
 unfolding parsed otherCall
 returns-2 c =
     let line = now (c .before .before .before .before .before .before .args .line) in
+    let format = andThen (numbers formatNames line) (four formatCall) in
+    let post = andThen (numbers postNames line) (three postCall) in
     let p = c .before .post-line .ensures in
-    p ∙ request-first (andThen (numbers postNames line) (three postCall)) (otherCall line) (rw p at (c .match2 .keys2))
-    ∙ request-next (andThen (numbers formatNames line) (four formatCall)) (orTry (andThen (numbers postNames line) (three postCall)) (otherCall line)) (sym (c .before .before .before .before .format-line .ensures) ∙ c .before .before .enum-told .given .1)
+    let no-format = sym (c .before .before .before .before .format-line .ensures) ∙ c .before .before .enum-told .given .1 in
+    p ∙ request-first post (otherCall line) (rw p at (c .match2 .keys2)) ∙ request-next format (orTry post (otherCall line)) no-format
 
 other-line-requires : tie.Need-other-line-requires
 other-line-requires c κs = search needs
@@ -44,9 +48,11 @@ returns-3 : tie.Need-returns-3
 unfolding parsed otherCall
 returns-3 c =
     let line = now (c .before .before .before .before .before .before .before .before .args .line) in
-    c .other-line .ensures
-    ∙ request-next (andThen (numbers postNames line) (three postCall)) (otherCall line) (sym (c .before .before .before .post-line .ensures) ∙ c .before .enum-told2 .given .1)
-    ∙ request-next (andThen (numbers formatNames line) (four formatCall)) (orTry (andThen (numbers postNames line) (three postCall)) (otherCall line)) (sym (c .before .before .before .before .before .before .format-line .ensures) ∙ c .before .before .before .before .enum-told .given .1)
+    let format = andThen (numbers formatNames line) (four formatCall) in
+    let post = andThen (numbers postNames line) (three postCall) in
+    let no-post = sym (c .before .before .before .post-line .ensures) ∙ c .before .enum-told2 .given .1 in
+    let no-format = sym (c .before .before .before .before .before .before .format-line .ensures) ∙ c .before .before .before .before .enum-told .given .1 in
+    c .other-line .ensures ∙ request-next post (otherCall line) no-post ∙ request-next format (orTry post (otherCall line)) no-format
 
 pub parse-spec : {M : Type 1} → statement M
 parse-spec =

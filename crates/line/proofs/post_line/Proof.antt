@@ -29,7 +29,9 @@ returns : tie.Need-returns
 unfolding text postNames requestOf
 returns c =
     let line = now (c .before .before .before .before .before .args .line) in
-    rw (numbers-none line (text "op=post bib=") (text " at=" ∷ text " time=" ∷ []) 0 _ (c .before .before .field .ensures .0) (c .enum-told .given .1))
+    let first = text "op=post bib=" in
+    let others = text " at=" ∷ text " time=" ∷ [] in
+    rw (numbers-none line first others 0 _ (c .before .before .field .ensures .0) (c .enum-told .given .1))
 
 slice-aggregate-pair-at : tie.Need-slice-aggregate-pair-at
 slice-aggregate-pair-at c = search needs
@@ -50,17 +52,23 @@ enum-told-2 c = search needs
 returns-2 : tie.Need-returns-2
 unfolding text postNames requestOf callOf
 returns-2 c =
-    let line = now (c .before .before .before .before .before .before .before .before .before .before .before .args .line) in
     let b = c .before .before .before .before .before .before .b .given in
-    let one = numbers-more line (text "op=post bib=") (text " at=" ∷ text " time=" ∷ []) 0 _ (c .before .before .before .before .before .before .before .before .field .ensures .0) (b .0 .0) (b .0 .1 .0) (b .1) in
+    let read = c .before .before .before .before .before .before .before .before in
+    let line = now (read .before .before .before .args .line) in
+    let first = text "op=post bib=" in
+    let others = text " at=" ∷ text " time=" ∷ [] in
+    let one = numbers-more line first others 0 _ (read .field .ensures .0) (b .0 .0) (b .0 .1 .0) (b .1) in
     rw (one, three-of postCall (b .0 .0), ← c .before .before .pair-at .ensures, c .enum-told2 .given .1)
 
 returns-3 : tie.Need-returns-3
 unfolding text postNames requestOf callOf
 returns-3 c =
-    let line = now (c .before .before .before .before .before .before .before .before .before .before .before .before .args .line) in
     let b = c .before .before .before .before .before .before .before .b .given in
-    let one = numbers-more line (text "op=post bib=") (text " at=" ∷ text " time=" ∷ []) 0 _ (c .before .before .before .before .before .before .before .before .before .field .ensures .0) (b .0 .0) (b .0 .1 .0) (b .1) in
+    let read = c .before .before .before .before .before .before .before .before .before in
+    let line = now (read .before .before .before .args .line) in
+    let first = text "op=post bib=" in
+    let others = text " at=" ∷ text " time=" ∷ [] in
+    let one = numbers-more line first others 0 _ (read .field .ensures .0) (b .0 .0) (b .0 .1 .0) (b .1) in
     rw (one, three-of postCall (b .0 .0), ← c .before .before .before .pair-at .ensures, c .before .p .given .1)
 
 pub post-line-spec : {M : Type 1} → statement M

@@ -50,15 +50,20 @@ same-length c = search needs
 returns : tie.Need-returns
 unfolding text
 returns c =
-    let o = c .before .before .before .before .before .before .before .before .before .before .before .before .before .before .before .before .before .before .before .before .before .before .before .before .before .before .before .before .before .before .before in
-    let a = o .args .a in
-    let out = now (o .args .out) in
-    let one = c .before .before .before .before .before .before .before .before .before .before .before .before .before .before .before .before .before .before .before .before .before .before .before .before .before .before .before .field .ensures in
-    let two = c .before .before .before .before .before .before .before .before .before .before .before .before .before .before .before .before .before .before .before .before .before .before .field2 .ensures in
-    let three = c .before .before .before .before .before .before .before .before .before .before .before .before .before .before .before .before .before .field3 .ensures in
-    let four = c .before .before .before .before .before .before .before .before .before .before .before .before .field4 .ensures in
-    let five = c .before .before .before .before .before .before .before .field5 .ensures in
-    let last = c .before .before .put .ensures in
+    let end = c .before .before in
+    let fifth = end .before .before .before .before .before in
+    let fourth = fifth .before .before .before .before .before in
+    let third = fourth .before .before .before .before .before in
+    let second = third .before .before .before .before .before in
+    let first = second .before .before .before .before .before in
+    let a = first .before .before .before .before .args .a in
+    let out = now (first .before .before .before .before .args .out) in
+    let one = first .field .ensures in
+    let two = second .field2 .ensures in
+    let three = third .field3 .ensures in
+    let four = fourth .field4 .ensures in
+    let five = fifth .field5 .ensures in
+    let last = end .put .ensures in
     let code = text "code=" ++ decimal (a .code) in
     let bib = text " bib=" ++ decimal (a .bib) in
     let at = text " at=" ++ decimal (a .at) in

@@ -48,16 +48,13 @@ loop-less c = search needs
 
 loop-again : tie.Need-loop-again Inv-loop μ-loop
 loop-again c =
+    let k = c .before .before .before .before .before .before .before .before .byte in
     let l = c .before .before .before .before .before .before .before .before .before .before .before .before .before .before .loop in
     let got = now (c .before .before .before .before .before .before .before .before .before .before .before .before .before .before .before .before .before .before .before .args .got) in
-    let k = c .before .before .before .before .before .before .before .before .byte in (
-      search needs,
-      k .kept .0 ∙ l .inv .1,
-      k .kept .1 .0 ∙ l .inv .2,
-      k .kept .1 .1 .0 ∙ l .inv .3,
-      k .ensures .0,
-      sym (fed-more (take (l .state .len) (l .card)) (take (l .state .used) (l .room)) got (l .i) _ (c .before .before .before .before .before .before .before .before .before .before .before .before .before .loop-test .taken) (k .ensures .1 .0)) ∙ l .inv .5,
-    )
+    let card = take (l .state .len) (l .card) in
+    let kept = take (l .state .used) (l .room) in
+    let turn = fed-more card kept got (l .i) _ (c .before .before .before .before .before .before .before .before .before .before .before .before .before .loop-test .taken) (k .ensures .1 .0) in
+    (search needs, k .kept .0 ∙ l .inv .1, k .kept .1 .0 ∙ l .inv .2, k .kept .1 .1 .0 ∙ l .inv .3, k .ensures .0, sym turn ∙ l .inv .5)
 
 same-length : tie.Need-same-length Inv-loop μ-loop
 same-length c = search needs

@@ -23,9 +23,10 @@ same-length-2 c = search needs
 returns : tie.Need-returns
 unfolding answered
 returns c =
-    let k = c .before .before .before .before .before .before .before .act in
     let w = c .before .before .write-answer in
-    let said = line-said (now (c .before .before .before .before .before .before .before .before .before .before .before .before .args .out)) (w .last .0) (answerLine (k .result .answer)) (w .result) (w .ensures .0) (w .ensures .1) in
+    let k = c .before .before .before .before .before .before .before .act in
+    let out = now (c .before .before .before .before .before .before .before .before .before .before .before .before .args .out) in
+    let said = line-said out (w .last .0) (answerLine (k .result .answer)) (w .result) (w .ensures .0) (w .ensures .1) in
     ((k .ensures .0, refl, w .ensures .2), (ap (λ (d : Done). d .card) (k .ensures .1), said ∙ ap (λ (d : Done). answerLine (d .answer)) (k .ensures .1)))
 
 pub respond-spec : {M : Type 1} → statement M

@@ -8,7 +8,8 @@ use Rattle.serve.proofs.serve.Statement.{statement}
 use Rattle.serve.proofs.serve.Tie as tie
 
 abbrev Inv-loop : tie.InvT-loop
-Inv-loop buf₀ room₀ card₀ out₀ s₀ turns₀ buf room card out s turns = (length buf ≡ length buf₀) × (length room ≡ length room₀) × (length card ≡ length card₀) × (length out ≡ length out₀) × Ready room card out s
+Inv-loop buf₀ room₀ card₀ out₀ s₀ turns₀ buf room card out s turns =
+    (length buf ≡ length buf₀) × (length room ≡ length room₀) × (length card ≡ length card₀) × (length out ≡ length out₀) × Ready room card out s
 
 abbrev μ-loop : tie.MeasureT-loop
 μ-loop buf₀ room₀ card₀ out₀ s₀ turns₀ buf room card out s turns = turns
@@ -66,9 +67,11 @@ loop-less c = search needs
 
 loop-again : tie.Need-loop-again Inv-loop μ-loop
 loop-again c =
-    let l = c .before .before .before .before .before .before .before .before .before .before .before .before .before .before .before .before .before .before .before .loop in
-    let k = c .before .before .before .before .before .before .chunk in
-    (c .before .before .before .before .before .before .before .before .before .before .before .before .before .before .before .before .read .kept .1 .0 ∙ l .inv .0, k .kept .1 .0 ∙ l .inv .1, k .kept .1 .1 .0 ∙ l .inv .2, k .kept .1 .1 .1 .0 ∙ l .inv .3, k .ensures .0)
+    let done = c .before .before .before .before .before .before in
+    let k = done .chunk in
+    let read = done .before .before .before .before .before .before .before .before .before .before in
+    let l = read .before .before .before .loop in
+    (read .read .kept .1 .0 ∙ l .inv .0, k .kept .1 .0 ∙ l .inv .1, k .kept .1 .1 .0 ∙ l .inv .2, k .kept .1 .1 .1 .0 ∙ l .inv .3, k .ensures .0)
 
 same-length-5 : tie.Need-same-length-5 Inv-loop μ-loop
 same-length-5 c = search needs

@@ -27,10 +27,11 @@ same-length c = search needs
 returns : tie.Need-returns
 unfolding benchLine
 returns c =
-    let a = c .before .before .before .before .before .before .before .before .args in
     let k = c .before .before .act-on in
     let parse = c .before .before .before .before .before .parse .ensures in
-    (k .ensures .0, k .ensures .1 ∙ ap (doneOn (take (a .len) (now (a .card)))) parse ∙ no-format (take (a .len) (now (a .card))) (parsed (now (a .line))) (rw parse at (c .before .before .before .before .match .keys2)))
+    let a = c .before .before .before .before .before .before .before .before .args in
+    let card = take (a .len) (now (a .card)) in
+    (k .ensures .0, k .ensures .1 ∙ ap (doneOn card) parse ∙ no-format card (parsed (now (a .line))) (rw parse at (c .before .before .before .before .match .keys2)))
 
 first-format-requires : tie.Need-first-format-requires
 first-format-requires c κs = rw (c .before .if1 .taken) at (c .before .before .before .before .before .before .before .before .pre)
@@ -57,12 +58,14 @@ same-length-3 c = search needs
 returns-3 : tie.Need-returns-3
 unfolding benchLine
 returns-3 c =
-    let a = c .before .before .before .before .before .before .before .before .before .before .before .args in
-    let room = c .before .before .before .before .before .before .before .before .before .before .before .pre in
     let k = c .before .before .act-on2 in
     let parse = c .before .before .before .before .before .before .before .before .parse .ensures in
-    let some : 0 < length (take (a .len) (now (a .card))) = omega (arith, length-take-le (a .len) (now (a .card)) (omega (arith, room .inside, room .long)), c .before .before .before .before .if1 .left) in
-    (k .ensures .0, k .ensures .1 ∙ ap (doneOn (take (a .len) (now (a .card)))) (sym (c .before .before .before .before .before .before .q .given .1) ∙ parse) ∙ card-there (take (a .len) (now (a .card))) (parsed (now (a .line))) some)
+    let start = c .before .before .before .before .before .before .before .before .before .before .before in
+    let a = start .args in
+    let card = take (a .len) (now (a .card)) in
+    let whole = length-take-le (a .len) (now (a .card)) (omega (arith, start .pre .inside, start .pre .long)) in
+    let some : 0 < length card = omega (arith, whole, c .before .before .before .before .if1 .left) in
+    (k .ensures .0, k .ensures .1 ∙ ap (doneOn card) (sym (c .before .before .before .before .before .before .q .given .1) ∙ parse) ∙ card-there card (parsed (now (a .line))) some)
 
 pub act-spec : {M : Type 1} → statement M
 act-spec =
