@@ -29,9 +29,11 @@ shared-slice-read-b c = search needs
 
 used-in-requires : tie.Need-used-in-requires Inv-loop μ-loop
 used-in-requires c κs =
-    let l = c .before .before .loop in
-    let o = c .before .before .before .before .before in
-    (o .pre .0 .0, read-at (o .args .head) (o .args .card .now) (o .args .path .now) (l .i) (search needs) (l .inv .4) .0)
+    let turn = c .before .before in
+    let o = turn .before .before .before in
+    let a = o .args in
+    let l = turn .loop in
+    (o .pre .0 .0, read-at (a .head) (a .card .now) (a .path .now) (l .i) (search needs) (l .inv .4) .0)
 
 sent-count-requires : tie.Need-sent-count-requires Inv-loop μ-loop
 sent-count-requires c κs = search needs
@@ -42,17 +44,23 @@ add-if1 c = search needs
 returns : tie.Need-returns Inv-loop μ-loop
 unfolding needsOf freshOver isOpen
 returns c =
-    let l = c .before .before .before .before .before .loop in
-    let o = c .before .before .before .before .before .before .before .before in
+    let at-used-in = c .before .before in
+    let turn = at-used-in .before .before .before in
+    let o = turn .before .before .before in
+    let a = o .args in
+    let l = turn .loop in
     ap needsOf
-    (ends-here (o .args .head) (o .args .stamp) (o .args .card .now) (o .args .path .now) (l .i) (l .sent) (l .next) _ _ _ (o .pre .0 .0) (l .inv .4) (l .inv .5) (search needs)
-    (c .before .before .used-in .ensures .0) (c .before .sent-count .ensures .0) (c .if1 .taken))
+    (ends-here (a .head) (a .stamp) (a .card .now) (a .path .now) (l .i) (l .sent) (l .next) _ _ _ (o .pre .0 .0) (l .inv .4) (l .inv .5) (search needs)
+    (at-used-in .used-in .ensures .0) (c .before .sent-count .ensures .0) (c .if1 .taken))
 
 renewal-requires : tie.Need-renewal-requires Inv-loop μ-loop
 renewal-requires c κs =
-    let l = c .before .before .before .before .before .loop in
-    let o = c .before .before .before .before .before .before .before .before in (
-      (o .pre .0 .0, read-at (o .args .head) (o .args .card .now) (o .args .path .now) (l .i) (search needs) (l .inv .4) .0, c .before .before .used-in .ensures .0),
+    let at-used-in = c .before .before in
+    let turn = at-used-in .before .before .before in
+    let o = turn .before .before .before in
+    let a = o .args in
+    let l = turn .loop in (
+      (o .pre .0 .0, read-at (a .head) (a .card .now) (a .path .now) (l .i) (search needs) (l .inv .4) .0, at-used-in .used-in .ensures .0),
       (l .inv .3, omega (arith, l .inv .1, l .inv .2, o .pre .1)),
     )
 
@@ -64,28 +72,36 @@ loop-less c = search needs
 
 loop-again : tie.Need-loop-again Inv-loop μ-loop
 loop-again c =
-    let l = c .before .before .before .before .before .before .before .loop in
-    let o = c .before .before .before .before .before .before .before .before .before .before in
+    let at-sent-count = c .before .before .before in
+    let at-used-in = at-sent-count .before in
+    let turn = at-used-in .before .before .before in
+    let o = turn .before .before .before in
+    let a = o .args in
+    let l = turn .loop in
     let on = c .before .renewal .ensures in
-    let u = c .before .before .before .before .used-in .ensures in (
+    let u = at-used-in .used-in .ensures in (
       search needs,
       search needs,
       omega (arith, l .inv .2, on .most),
       on .small,
-      read-at (o .args .head) (o .args .card .now) (o .args .path .now) (l .i) (search needs) (l .inv .4) .1,
-      goes-on (o .args .head) (o .args .stamp) (o .args .card .now) (o .args .path .now) (l .i) (l .sent) (l .next) _ _ _ (o .pre .0 .0) (l .inv .4) (l .inv .5) (search needs)
-          (u .0) (c .before .before .before .sent-count .ensures .0) (search needs) (u .2) (c .before .renewal .result) on,
+      read-at (a .head) (a .card .now) (a .path .now) (l .i) (search needs) (l .inv .4) .1,
+      goes-on (a .head) (a .stamp) (a .card .now) (a .path .now) (l .i) (l .sent) (l .next) _ _ _ (o .pre .0 .0) (l .inv .4) (l .inv .5) (search needs)
+          (u .0) (at-sent-count .sent-count .ensures .0) (search needs) (u .2) (c .before .renewal .result) on,
     )
 
 over-requires : tie.Need-over-requires Inv-loop μ-loop
-over-requires c κs = let l = c .before .loop in let o = c .before .before .before .before in omega (arith, l .inv .1, l .inv .2, o .pre .1)
+over-requires c κs =
+    let o = c .before .before .before .before in
+    let l = c .before .loop in omega (arith, l .inv .1, l .inv .2, o .pre .1)
 
 returns-2 : tie.Need-returns-2 Inv-loop μ-loop
 returns-2 c =
-    let l = c .before .before .loop in
-    let o = c .before .before .before .before .before in
-    let none : drop (l .i) (o .args .path .now) ≡ [] = drop-of-length-le (o .args .path .now) {i = l .i} (search needs) in
-    c .over .ensures ∙ ap needsOf (sym (ap (λ (bs : List ℕ). countOn (o .args .head) (o .args .stamp) (o .args .card .now) bs (tally (sentList (l .sent)) (l .next))) none ∙ count-none (o .args .head) (o .args .stamp) (o .args .card .now) _) ∙ l .inv .5)
+    let turn = c .before .before in
+    let o = turn .before .before .before in
+    let a = o .args in
+    let l = turn .loop in
+    let none : drop (l .i) (a .path .now) ≡ [] = drop-of-length-le (a .path .now) {i = l .i} (search needs) in
+    c .over .ensures ∙ ap needsOf (sym (ap (λ (bs : List ℕ). countOn (a .head) (a .stamp) (a .card .now) bs (tally (sentList (l .sent)) (l .next))) none ∙ count-none (a .head) (a .stamp) (a .card .now) _) ∙ l .inv .5)
 
 pub count-spec : {M : Type 1} → statement M
 count-spec =

@@ -27,60 +27,78 @@ first-sector-requires c κs =
 
 write-sent-requires : tie.Need-write-sent-requires
 write-sent-requires c κs =
-    let o = c .before .before .before .before .before in
-    let t = c .before .before .if1 .taken in
-    let cap = rw (root-two (o .args .head) (o .args .stamp) (o .args .p) (o .args .fresh) (o .args .card .now) t) at (o .pre .1) in
+    let at-if1 = c .before .before in
+    let o = at-if1 .before .before .before in
+    let a = o .args in
+    let t = at-if1 .if1 .taken in
+    let cap = rw (root-two (a .head) (a .stamp) (a .p) (a .fresh) (a .card .now) t) at (o .pre .1) in
     let rd = o .pre .0 .0 in
-    let long : length (sentList (o .args .p)) ≡ 2 = rw t in
-    let fits = bucket-fits (o .args .head) (o .args .card .now) (o .args .fresh) (rd .shape .long) (rd .least) (omega arith) in
+    let long : length (sentList (a .p)) ≡ 2 = rw t in
+    let fits = bucket-fits (a .head) (a .card .now) (a .fresh) (rd .shape .long) (rd .least) (omega arith) in
     (omega (arith, c .before .first-sector .ensures, rd .shape .lim .m4), o .pre .0 .1)
 
 cast-write-log : tie.Need-cast-write-log
 cast-write-log c =
-    let o = c .before .before .before .before .before .before .before .before .before in
-    let t = c .before .before .before .before .before .before .if1 .taken in
-    let cap = rw (root-two (o .args .head) (o .args .stamp) (o .args .p) (o .args .fresh) (o .args .card .now) t) at (o .pre .1) in
+    let at-if1 = c .before .before .before .before .before .before in
+    let o = at-if1 .before .before .before in
+    let a = o .args in
+    let t = at-if1 .if1 .taken in
+    let cap = rw (root-two (a .head) (a .stamp) (a .p) (a .fresh) (a .card .now) t) at (o .pre .1) in
     let rd = o .pre .0 .0 in
     omega (arith, rd .shape .lim .n4096)
 
 write-log-requires : tie.Need-write-log-requires
 write-log-requires c κs =
-    let o = c .before .before .before .before .before .before .before .before .before in
-    let t = c .before .before .before .before .before .before .if1 .taken in
-    let cap = rw (root-two (o .args .head) (o .args .stamp) (o .args .p) (o .args .fresh) (o .args .card .now) t) at (o .pre .1) in
+    let at-write-sent = c .before .before .before in
+    let at-first-sector = at-write-sent .before .before in
+    let at-if1 = at-first-sector .before in
+    let o = at-if1 .before .before .before in
+    let a = o .args in
+    let t = at-if1 .if1 .taken in
+    let cap = rw (root-two (a .head) (a .stamp) (a .p) (a .fresh) (a .card .now) t) at (o .pre .1) in
     let rd = o .pre .0 .0 in
-    let long : length (sentList (o .args .p)) ≡ 2 = rw t in
-    let card1 : c .before .before .before .write-sent .last .0 ≡ into (o .args .head) (o .args .fresh) (sentList (o .args .p)) (o .args .card .now) =
-    c .before .before .before .write-sent .ensures ∙ ap (λ (k : ℕ). puts (o .args .card .now) k (sentList (o .args .p))) (c .before .before .before .before .before .first-sector .ensures ∙ (let z : base (o .args .head) (o .args .fresh) ≡ base (o .args .head) (o .args .fresh) + 0 = omega arith in z))
-    ∙ sym (into-puts (o .args .head) (o .args .card .now) (o .args .fresh) [] (sentList (o .args .p)) (rd .free (o .args .fresh) (omega arith) (omega arith)) (omega (arith, rd .shape .lim .m4))) in
-    let now = subst (λ (l : List ℕ). Ready (o .args .head) l [] (o .args .fresh + 1)) (sym card1) (ready-into (o .args .head) (o .args .card .now) [] (o .args .fresh) (sentList (o .args .p)) rd (omega arith)) in
+    let long : length (sentList (a .p)) ≡ 2 = rw t in
+    let card1 : at-write-sent .write-sent .last .0 ≡ into (a .head) (a .fresh) (sentList (a .p)) (a .card .now) =
+    at-write-sent .write-sent .ensures ∙ ap (λ (k : ℕ). puts (a .card .now) k (sentList (a .p))) (at-first-sector .first-sector .ensures ∙ (let z : base (a .head) (a .fresh) ≡ base (a .head) (a .fresh) + 0 = omega arith in z))
+    ∙ sym (into-puts (a .head) (a .card .now) (a .fresh) [] (sentList (a .p)) (rd .free (a .fresh) (omega arith) (omega arith)) (omega (arith, rd .shape .lim .m4))) in
+    let now = subst (λ (l : List ℕ). Ready (a .head) l [] (a .fresh + 1)) (sym card1) (ready-into (a .head) (a .card .now) [] (a .fresh) (sentList (a .p)) rd (omega arith)) in
     (now .shape, now .logs)
 
 write-log-requires-2 : tie.Need-write-log-requires-2
-write-log-requires-2 c κs = let o = c .before .before .before .before in (o .pre .0 .0 .shape, o .pre .0 .0 .logs)
+write-log-requires-2 c κs =
+    let o = c .before .before .before .before in
+    (o .pre .0 .0 .shape, o .pre .0 .0 .logs)
 
 same-length : tie.Need-same-length
 same-length c = search needs
 
 returns : tie.Need-returns
 returns c =
-    let o = c .before .before .before .before .before .before .before .before .before .before .before .before in
-    let t = c .before .before .before .before .before .before .before .before .before .if1 .taken in
-    let cap = rw (root-two (o .args .head) (o .args .stamp) (o .args .p) (o .args .fresh) (o .args .card .now) t) at (o .pre .1) in
+    let at-write-log = c .before .before in
+    let at-write-sent = at-write-log .before .before .before .before in
+    let at-first-sector = at-write-sent .before .before in
+    let at-if1 = at-first-sector .before in
+    let o = at-if1 .before .before .before in
+    let a = o .args in
+    let t = at-if1 .if1 .taken in
+    let cap = rw (root-two (a .head) (a .stamp) (a .p) (a .fresh) (a .card .now) t) at (o .pre .1) in
     let rd = o .pre .0 .0 in
-    let long : length (sentList (o .args .p)) ≡ 2 = rw t in
-    let card1 : c .before .before .before .before .before .before .write-sent .last .0 ≡ into (o .args .head) (o .args .fresh) (sentList (o .args .p)) (o .args .card .now) =
-    c .before .before .before .before .before .before .write-sent .ensures ∙ ap (λ (k : ℕ). puts (o .args .card .now) k (sentList (o .args .p))) (c .before .before .before .before .before .before .before .before .first-sector .ensures ∙ (let z : base (o .args .head) (o .args .fresh) ≡ base (o .args .head) (o .args .fresh) + 0 = omega arith in z))
-    ∙ sym (into-puts (o .args .head) (o .args .card .now) (o .args .fresh) [] (sentList (o .args .p)) (rd .free (o .args .fresh) (omega arith) (omega arith)) (omega (arith, rd .shape .lim .m4))) in
-    rw (root-two (o .args .head) (o .args .stamp) (o .args .p) (o .args .fresh) (o .args .card .now) t, ← card1) (c .before .before .write-log .ensures)
+    let long : length (sentList (a .p)) ≡ 2 = rw t in
+    let card1 : at-write-sent .write-sent .last .0 ≡ into (a .head) (a .fresh) (sentList (a .p)) (a .card .now) =
+    at-write-sent .write-sent .ensures ∙ ap (λ (k : ℕ). puts (a .card .now) k (sentList (a .p))) (at-first-sector .first-sector .ensures ∙ (let z : base (a .head) (a .fresh) ≡ base (a .head) (a .fresh) + 0 = omega arith in z))
+    ∙ sym (into-puts (a .head) (a .card .now) (a .fresh) [] (sentList (a .p)) (rd .free (a .fresh) (omega arith) (omega arith)) (omega (arith, rd .shape .lim .m4))) in
+    rw (root-two (a .head) (a .stamp) (a .p) (a .fresh) (a .card .now) t, ← card1) (at-write-log .write-log .ensures)
 
 same-length-2 : tie.Need-same-length-2
 same-length-2 c = search needs
 
 returns-2 : tie.Need-returns-2
 returns-2 c =
-    let o = c .before .before .before .before .before .before .before in
-    rw (root-one (o .args .head) (o .args .stamp) (o .args .p) (o .args .fresh) (o .args .card .now) (c .before .before .before .before .if1 .left)) (c .before .before .write-log2 .ensures)
+    let at-write-log2 = c .before .before in
+    let at-if1 = at-write-log2 .before .before in
+    let o = at-if1 .before .before .before in
+    let a = o .args in
+    rw (root-one (a .head) (a .stamp) (a .p) (a .fresh) (a .card .now) (at-if1 .if1 .left)) (at-write-log2 .write-log2 .ensures)
 
 pub new-root-spec : {M : Type 1} → statement M
 new-root-spec =

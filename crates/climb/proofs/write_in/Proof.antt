@@ -39,12 +39,15 @@ same-length c = search needs
 
 returns : tie.Need-returns
 returns c =
-    let o = c .before .before .before .before .before .before in
-    let rd = reads (o .args .head) (o .args .card .now) (o .args .b) (o .pre .0 .0) (o .pre .0 .1) in
-    let es = entriesOn (o .args .head) (o .args .card .now) (o .args .b) in
-    let at : c .before .before .before .before .first-sector .result + o .args .used ≡ base (o .args .head) (o .args .b) + length es = ap₂ (λ (x y : ℕ). x + y) (c .before .before .before .before .first-sector .ensures) (o .pre .0 .2) in
-    c .before .before .write-sent .ensures ∙ ap (λ (k : ℕ). puts (o .args .card .now) k (sentList (o .args .p))) at
-    ∙ sym (into-puts (o .args .head) (o .args .card .now) (o .args .b) es (sentList (o .args .p)) (rd .raws) (omega (arith, o .pre .0 .2, o .pre .1)))
+    let at-write-sent = c .before .before in
+    let at-first-sector = at-write-sent .before .before in
+    let o = at-first-sector .before .before in
+    let a = o .args in
+    let rd = reads (a .head) (a .card .now) (a .b) (o .pre .0 .0) (o .pre .0 .1) in
+    let es = entriesOn (a .head) (a .card .now) (a .b) in
+    let at : at-first-sector .first-sector .result + a .used ≡ base (a .head) (a .b) + length es = ap₂ (λ (x y : ℕ). x + y) (at-first-sector .first-sector .ensures) (o .pre .0 .2) in
+    at-write-sent .write-sent .ensures ∙ ap (λ (k : ℕ). puts (a .card .now) k (sentList (a .p))) at
+    ∙ sym (into-puts (a .head) (a .card .now) (a .b) es (sentList (a .p)) (rd .raws) (omega (arith, o .pre .0 .2, o .pre .1)))
 
 pub write-in-spec : {M : Type 1} → statement M
 write-in-spec =

@@ -34,12 +34,17 @@ same-length c = search needs
 
 returns : tie.Need-returns
 returns c =
-    let o = c .before .before .before .before .before .before .before .before .before in
-    let e : Entry = rootEntry (o .args .stamp) (o .args .root) in
-    let lg = log-reads (o .args .head) (o .args .card .now) (o .pre .1 .0) (o .pre .0) (o .pre .1 .1) in
-    let is : c .before .before .before .before .before .used .result ≡ lg .count = c .before .before .before .before .before .used .ensures .1 ∙ ap (λ (p : List ℕ). usedOf 0 p 0 (o .args .head .n)) (c .before .before .before .before .before .before .log-part .ensures .0) ∙ lg .used in
-    c .before .before .write-entry .ensures ∙ ap (λ (k : ℕ). put (o .args .card .now) (1 + k) (encode e)) is
-    ∙ sym (ap (λ (l : List ℕ). fill (o .args .card .now) l (e ∷ [])) (lg .blank) ∙ fill-up (o .args .card .now) (1 + lg .count) (o .args .head .n - lg .count) (e ∷ []) (omega (arith, c .before .before .before .before .if1 .taken)))
+    let at-write-entry = c .before .before in
+    let at-if1 = at-write-entry .before .before in
+    let at-used = at-if1 .before in
+    let at-log-part = at-used .before in
+    let o = at-log-part .before .before .before in
+    let a = o .args in
+    let e : Entry = rootEntry (a .stamp) (a .root) in
+    let lg = log-reads (a .head) (a .card .now) (o .pre .1 .0) (o .pre .0) (o .pre .1 .1) in
+    let is : at-used .used .result ≡ lg .count = at-used .used .ensures .1 ∙ ap (λ (p : List ℕ). usedOf 0 p 0 (a .head .n)) (at-log-part .log-part .ensures .0) ∙ lg .used in
+    at-write-entry .write-entry .ensures ∙ ap (λ (k : ℕ). put (a .card .now) (1 + k) (encode e)) is
+    ∙ sym (ap (λ (l : List ℕ). fill (a .card .now) l (e ∷ [])) (lg .blank) ∙ fill-up (a .card .now) (1 + lg .count) (a .head .n - lg .count) (e ∷ []) (omega (arith, at-if1 .if1 .taken)))
 
 same-length-2 : tie.Need-same-length-2
 same-length-2 c = search needs
@@ -47,12 +52,14 @@ same-length-2 c = search needs
 returns-2 : tie.Need-returns-2
 unfolding fill
 returns-2 c =
-    let o = c .before .before .before .before .before in
-    let e : Entry = rootEntry (o .args .stamp) (o .args .root) in
-    let lg = log-reads (o .args .head) (o .args .card .now) (o .pre .1 .0) (o .pre .0) (o .pre .1 .1) in
-    let is : c .before .used .result ≡ lg .count = c .before .used .ensures .1 ∙ ap (λ (p : List ℕ). usedOf 0 p 0 (o .args .head .n)) (c .before .before .log-part .ensures .0) ∙ lg .used in
-    let none : o .args .head .n - lg .count ≡ 0 = omega (arith, c .if1 .left) in
-    sym (ap (λ (l : List ℕ). fill (o .args .card .now) l (e ∷ [])) (lg .blank ∙ ap (upFrom (1 + lg .count)) none))
+    let at-log-part = c .before .before in
+    let o = at-log-part .before .before .before in
+    let a = o .args in
+    let e : Entry = rootEntry (a .stamp) (a .root) in
+    let lg = log-reads (a .head) (a .card .now) (o .pre .1 .0) (o .pre .0) (o .pre .1 .1) in
+    let is : c .before .used .result ≡ lg .count = c .before .used .ensures .1 ∙ ap (λ (p : List ℕ). usedOf 0 p 0 (a .head .n)) (at-log-part .log-part .ensures .0) ∙ lg .used in
+    let none : a .head .n - lg .count ≡ 0 = omega (arith, c .if1 .left) in
+    sym (ap (λ (l : List ℕ). fill (a .card .now) l (e ∷ [])) (lg .blank ∙ ap (upFrom (1 + lg .count)) none))
 
 pub write-log-spec : {M : Type 1} → statement M
 write-log-spec =

@@ -29,14 +29,17 @@ same-length c = search needs
 
 returns : tie.Need-returns
 returns c =
-    let o = c .before .before .before .before .before .before in
-    let card = o .args .card .now in
-    let new = slice (o .args .from) (o .args .to) (o .args .h .entries) in
-    let long : length new ≡ o .args .to - o .args .from = length-slice (o .args .from) (o .args .to) (o .args .h .entries) (omega (arith, o .pre .1)) in
-    let at : c .before .before .before .before .first-sector .result ≡ base (o .args .head) (o .args .b) + 0 = c .before .before .before .before .first-sector .ensures ∙ (let z : base (o .args .head) (o .args .b) ≡ base (o .args .head) (o .args .b) + 0 = omega arith in z) in
-    c .before .before .write-run .ensures
+    let at-write-run = c .before .before in
+    let at-first-sector = at-write-run .before .before in
+    let o = at-first-sector .before .before in
+    let a = o .args in
+    let card = a .card .now in
+    let new = slice (a .from) (a .to) (a .h .entries) in
+    let long : length new ≡ a .to - a .from = length-slice (a .from) (a .to) (a .h .entries) (omega (arith, o .pre .1)) in
+    let at : at-first-sector .first-sector .result ≡ base (a .head) (a .b) + 0 = at-first-sector .first-sector .ensures ∙ (let z : base (a .head) (a .b) ≡ base (a .head) (a .b) + 0 = omega arith in z) in
+    at-write-run .write-run .ensures
     ∙ ap (λ (k : ℕ). puts card k new) at
-    ∙ sym (into-puts (o .args .head) card (o .args .b) [] new (o .pre .0 .3) (omega (arith, o .pre .1)))
+    ∙ sym (into-puts (a .head) card (a .b) [] new (o .pre .0 .3) (omega (arith, o .pre .1)))
 
 pub write-new-spec : {M : Type 1} → statement M
 write-new-spec = tie.close (tie.spec first-sector-requires write-run-requires same-length returns)

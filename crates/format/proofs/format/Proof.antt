@@ -19,10 +19,13 @@ same-length c = search needs
 returns : tie.Need-returns
 unfolding format
 returns c =
-    let o = c .before .before .before .before .before .before in
-    let m = c .before .before .before .before .meant .ensures in
-    let l = c .before .before .format-for .ensures in
-    (l .0 ∙ ap (λ (h : Head). planAnswer (formatFor (o .args .card .now) h)) m, l .1 ∙ ap (λ (h : Head). planCard (o .args .card .now) (formatFor (o .args .card .now) h)) m)
+    let at-format-for = c .before .before in
+    let at-meant = at-format-for .before .before in
+    let o = at-meant .before .before in
+    let a = o .args in
+    let m = at-meant .meant .ensures in
+    let l = at-format-for .format-for .ensures in
+    (l .0 ∙ ap (λ (h : Head). planAnswer (formatFor (a .card .now) h)) m, l .1 ∙ ap (λ (h : Head). planCard (a .card .now) (formatFor (a .card .now) h)) m)
 
 pub format-spec : {M : Type 1} → statement M
 format-spec = tie.close (tie.spec meant-requires format-for-requires same-length returns)

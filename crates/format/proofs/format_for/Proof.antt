@@ -16,9 +16,12 @@ all-zero-requires c κs = search needs
 
 lay-out-requires : tie.Need-lay-out-requires
 lay-out-requires c κs =
-    let o = c .before .before .before .before .before .before .before in
-    let s = suited (o .args .card .now) (o .args .head) (sym (c .before .before .before .before .before .suits .ensures) ∙ c .before .before .before .before .if1 .taken) in
-    (s .0, s .1, sym (c .before .before .all-zero .ensures) ∙ c .before .if2 .taken)
+    let at-all-zero = c .before .before in
+    let at-if1 = at-all-zero .before .before in
+    let at-suits = at-if1 .before in
+    let o = at-suits .before .before in
+    let s = suited (o .args .card .now) (o .args .head) (sym (at-suits .suits .ensures) ∙ at-if1 .if1 .taken) in
+    (s .0, s .1, sym (at-all-zero .all-zero .ensures) ∙ c .before .if2 .taken)
 
 refusal-requires : tie.Need-refusal-requires
 refusal-requires c κs = search needs
@@ -28,8 +31,14 @@ same-length c = search needs
 
 returns : tie.Need-returns
 returns c =
-    let o = c .before .before .before .before .before .before .before .before .before .before .before in
-    let f = accepts (formatFor (o .args .card .now) (o .args .head)) (o .args .card .now) _ _ (laid-out (o .args .card .now) (o .args .head) (sym (c .before .before .before .before .before .before .before .before .before .suits .ensures) ∙ c .before .before .before .before .before .before .before .before .if1 .taken) (sym (c .before .before .before .before .before .before .all-zero .ensures) ∙ c .before .before .before .before .before .if2 .taken) ∙ ap accept (sym (c .before .before .before .lay-out .ensures))) (c .refusal .ensures) in
+    let at-lay-out = c .before .before .before in
+    let at-if2 = at-lay-out .before .before in
+    let at-all-zero = at-if2 .before in
+    let at-if1 = at-all-zero .before .before in
+    let at-suits = at-if1 .before in
+    let o = at-suits .before .before in
+    let a = o .args in
+    let f = accepts (formatFor (a .card .now) (a .head)) (a .card .now) _ _ (laid-out (a .card .now) (a .head) (sym (at-suits .suits .ensures) ∙ at-if1 .if1 .taken) (sym (at-all-zero .all-zero .ensures) ∙ at-if2 .if2 .taken) ∙ ap accept (sym (at-lay-out .lay-out .ensures))) (c .refusal .ensures) in
     (f .answer, f .bytes)
 
 refusal-requires-2 : tie.Need-refusal-requires-2
@@ -40,8 +49,12 @@ same-length-2 c = search needs
 
 returns-2 : tie.Need-returns-2
 returns-2 c =
-    let o = c .before .before .before .before .before .before .before in
-    let f = refuses (formatFor (o .args .card .now) (o .args .head)) (o .args .card .now) _ 9 (not-blank (o .args .card .now) (o .args .head) (sym (c .before .before .before .before .before .suits .ensures) ∙ c .before .before .before .before .if1 .taken) (sym (c .before .before .all-zero .ensures) ∙ c .before .if2 .left)) (c .refusal2 .ensures) in
+    let at-all-zero = c .before .before in
+    let at-if1 = at-all-zero .before .before in
+    let at-suits = at-if1 .before in
+    let o = at-suits .before .before in
+    let a = o .args in
+    let f = refuses (formatFor (a .card .now) (a .head)) (a .card .now) _ 9 (not-blank (a .card .now) (a .head) (sym (at-suits .suits .ensures) ∙ at-if1 .if1 .taken) (sym (at-all-zero .all-zero .ensures) ∙ c .before .if2 .left)) (c .refusal2 .ensures) in
     (f .answer, f .bytes)
 
 refusal-requires-3 : tie.Need-refusal-requires-3
@@ -49,8 +62,10 @@ refusal-requires-3 c κs = search needs
 
 returns-3 : tie.Need-returns-3
 returns-3 c =
-    let o = c .before .before .before .before in
-    let f = refuses (formatFor (o .args .card .now) (o .args .head)) (o .args .card .now) _ 8 (no-room (o .args .card .now) (o .args .head) (sym (c .before .before .suits .ensures) ∙ c .before .if1 .left)) (c .refusal3 .ensures) in
+    let at-suits = c .before .before in
+    let o = at-suits .before .before in
+    let a = o .args in
+    let f = refuses (formatFor (a .card .now) (a .head)) (a .card .now) _ 8 (no-room (a .card .now) (a .head) (sym (at-suits .suits .ensures) ∙ c .before .if1 .left)) (c .refusal3 .ensures) in
     (f .answer, f .bytes)
 
 pub format-for-spec : {M : Type 1} → statement M

@@ -21,32 +21,42 @@ add-second c = let o = c .before .before .before in let l = limits-hold (o .args
 write-head-requires : tie.Need-write-head-requires
 write-head-requires c κs =
     let o = c .before .before .before .before in
-    let l = limits-hold (o .args .head) (o .pre .0) in
-    let e = enough (o .args .head) (o .args .card .now) (o .pre .0) (o .pre .1) (o .pre .2) in
+    let a = o .args in
+    let l = limits-hold (a .head) (o .pre .0) in
+    let e = enough (a .head) (a .card .now) (o .pre .0) (o .pre .1) (o .pre .2) in
     (omega arith, omega (arith, l .m32), omega (arith, l .m32, l .tdm), omega (arith, l .m32, l .tim), omega (arith, l .n4096))
 
 write-entry-requires : tie.Need-write-entry-requires
 write-entry-requires c κs =
-    let o = c .before .before .before .before .before .before .before .before in
-    let l = limits-hold (o .args .head) (o .pre .0) in
-    let e = enough (o .args .head) (o .args .card .now) (o .pre .0) (o .pre .1) (o .pre .2) in
-    let w = ap length (c .before .before .before .write-head .ensures) ∙ long-headed (o .args .head) (o .args .card .now) (o .pre .0) (o .pre .1) (o .pre .2) in
+    let at-write-head = c .before .before .before in
+    let o = at-write-head .before .before .before .before .before in
+    let a = o .args in
+    let l = limits-hold (a .head) (o .pre .0) in
+    let e = enough (a .head) (a .card .now) (o .pre .0) (o .pre .1) (o .pre .2) in
+    let w = ap length (at-write-head .write-head .ensures) ∙ long-headed (a .head) (a .card .now) (o .pre .0) (o .pre .1) (o .pre .2) in
     (omega (arith, l .m4), omega arith)
 
 write-entry-requires-2 : tie.Need-write-entry-requires-2
 write-entry-requires-2 c κs =
-    let o = c .before .before .before .before .before .before .before .before .before .before .before .before in
-    let l = limits-hold (o .args .head) (o .pre .0) in
-    let e = enough (o .args .head) (o .args .card .now) (o .pre .0) (o .pre .1) (o .pre .2) in
-    let w = ap length (c .before .before .before .write-entry .ensures ∙ ap (λ (x : List ℕ). put x 1 (encode (rootEntry 0 1))) (c .before .before .before .before .before .before .before .write-head .ensures)) ∙ long-rooted (o .args .head) (o .args .card .now) (o .pre .0) (o .pre .1) (o .pre .2) in
+    let at-write-entry = c .before .before .before in
+    let at-write-head = at-write-entry .before .before .before .before in
+    let o = at-write-head .before .before .before .before .before in
+    let a = o .args in
+    let l = limits-hold (a .head) (o .pre .0) in
+    let e = enough (a .head) (a .card .now) (o .pre .0) (o .pre .1) (o .pre .2) in
+    let w = ap length (at-write-entry .write-entry .ensures ∙ ap (λ (x : List ℕ). put x 1 (encode (rootEntry 0 1))) (at-write-head .write-head .ensures)) ∙ long-rooted (a .head) (a .card .now) (o .pre .0) (o .pre .1) (o .pre .2) in
     (omega (arith, l .m4), omega arith)
 
 write-entry-requires-3 : tie.Need-write-entry-requires-3
 write-entry-requires-3 c κs =
-    let o = c .before .before .before .before .before .before .before .before .before .before .before .before .before .before .before .before in
-    let l = limits-hold (o .args .head) (o .pre .0) in
-    let e = enough (o .args .head) (o .args .card .now) (o .pre .0) (o .pre .1) (o .pre .2) in
-    let w = ap length (c .before .before .before .write-entry2 .ensures ∙ ap (λ (x : List ℕ). put x (1 + o .args .head .n) (encode (indexEntry 0 0 2))) (c .before .before .before .before .before .before .before .write-entry .ensures ∙ ap (λ (x : List ℕ). put x 1 (encode (rootEntry 0 1))) (c .before .before .before .before .before .before .before .before .before .before .before .write-head .ensures))) ∙ long-indexed (o .args .head) (o .args .card .now) (o .pre .0) (o .pre .1) (o .pre .2) in
+    let at-write-entry2 = c .before .before .before in
+    let at-write-entry = at-write-entry2 .before .before .before .before in
+    let at-write-head = at-write-entry .before .before .before .before in
+    let o = at-write-head .before .before .before .before .before in
+    let a = o .args in
+    let l = limits-hold (a .head) (o .pre .0) in
+    let e = enough (a .head) (a .card .now) (o .pre .0) (o .pre .1) (o .pre .2) in
+    let w = ap length (at-write-entry2 .write-entry2 .ensures ∙ ap (λ (x : List ℕ). put x (1 + a .head .n) (encode (indexEntry 0 0 2))) (at-write-entry .write-entry .ensures ∙ ap (λ (x : List ℕ). put x 1 (encode (rootEntry 0 1))) (at-write-head .write-head .ensures))) ∙ long-indexed (a .head) (a .card .now) (o .pre .0) (o .pre .1) (o .pre .2) in
     (omega (arith, l .m4), omega arith)
 
 same-length : tie.Need-same-length
@@ -54,12 +64,17 @@ same-length c = search needs
 
 returns : tie.Need-returns
 returns c =
-    let o = c .before .before .before .before .before .before .before .before .before .before .before .before .before .before .before .before .before .before .before in
-    let h = o .args .head in
-    c .before .before .write-entry3 .ensures
+    let at-write-entry3 = c .before .before in
+    let at-write-entry2 = at-write-entry3 .before .before .before .before in
+    let at-write-entry = at-write-entry2 .before .before .before .before in
+    let at-write-head = at-write-entry .before .before .before .before in
+    let o = at-write-head .before .before .before .before .before in
+    let a = o .args in
+    let h = a .head in
+    at-write-entry3 .write-entry3 .ensures
     ∙ ap (λ (x : List ℕ). put x (1 + h .n + h .m) (encode dummy))
-    (c .before .before .before .before .before .before .write-entry2 .ensures ∙ ap (λ (x : List ℕ). put x (1 + h .n) (encode (indexEntry 0 0 2))) (c .before .before .before .before .before .before .before .before .before .before .write-entry .ensures ∙ ap (λ (x : List ℕ). put x 1 (encode (rootEntry 0 1))) (c .before .before .before .before .before .before .before .before .before .before .before .before .before .before .write-head .ensures)))
-    ∙ sym (formatted-is (o .args .head) (o .args .card .now) (o .pre .0) (o .pre .1) (o .pre .2))
+    (at-write-entry2 .write-entry2 .ensures ∙ ap (λ (x : List ℕ). put x (1 + h .n) (encode (indexEntry 0 0 2))) (at-write-entry .write-entry .ensures ∙ ap (λ (x : List ℕ). put x 1 (encode (rootEntry 0 1))) (at-write-head .write-head .ensures)))
+    ∙ sym (formatted-is (a .head) (a .card .now) (o .pre .0) (o .pre .1) (o .pre .2))
 
 pub lay-out-spec : {M : Type 1} → statement M
 lay-out-spec =

@@ -28,10 +28,13 @@ pair-at-requires-2 c κs = search needs
 
 returns-2 : tie.Need-returns-2
 returns-2 c =
-    let o = c .before .before .before .before in
+    let at-if1 = c .before .before in
+    let at-pair-at = at-if1 .before in
+    let o = at-pair-at .before in
+    let a = o .args in
     let n = o .pre .0 in
-    let cut : c .before .halved .result ≡ length (held (o .args .h)) - length (held (o .args .h)) / 2 = c .before .halved .ensures .0 ∙ ap (λ (k : ℕ). k - k / 2) n in
-    two-pairs (o .args .stamp) (o .args .limit) (o .args .fresh) (c .before .halved .result) (held (o .args .h)) _ _ (omega (arith, n, c .before .before .if1 .left)) cut (c .before .before .before .pair-at .ensures) (c .pair-at2 .ensures)
+    let cut : c .before .halved .result ≡ length (held (a .h)) - length (held (a .h)) / 2 = c .before .halved .ensures .0 ∙ ap (λ (k : ℕ). k - k / 2) n in
+    two-pairs (a .stamp) (a .limit) (a .fresh) (c .before .halved .result) (held (a .h)) _ _ (omega (arith, n, at-if1 .if1 .left)) cut (at-pair-at .pair-at .ensures) (c .pair-at2 .ensures)
 
 pub pairs-spec : {M : Type 1} → statement M
 pairs-spec =

@@ -30,13 +30,17 @@ thinned-requires c κs = search needs
 
 returns : tie.Need-returns
 returns c =
-    let o = c .before .before .before .before .before .before in
+    let at-with-sent = c .before .before in
+    let at-key-at = at-with-sent .before in
+    let at-gathered = at-key-at .before in
+    let o = at-gathered .before .before in
+    let a = o .args in
     let r = c .thinned .result in
     let long : length (r .entries) ≡ 34 = sym (length-map (r .entries) _) ∙ c .thinned .ok .1 .1 .0 .1 .0 .1 in (
       search needs,
       sym (length-take-le (r .count) (r .entries) (omega arith)),
-      rw (c .thinned .ensures .1, c .before .in-order .ensures .1, c .before .before .with-sent .ensures .1, c .before .before .before .key-at .ensures, c .before .before .before .before .gathered .ensures .1)
-          (thinned-kept (keyOf (entriesAt (o .args .part .now) 0 (o .args .used))) (o .args .stamp) (entriesAt (o .args .part .now) 0 (o .args .used) ++ sentList (o .args .p))),
+      rw (c .thinned .ensures .1, c .before .in-order .ensures .1, at-with-sent .with-sent .ensures .1, at-key-at .key-at .ensures, at-gathered .gathered .ensures .1)
+          (thinned-kept (keyOf (entriesAt (a .part .now) 0 (a .used))) (a .stamp) (entriesAt (a .part .now) 0 (a .used) ++ sentList (a .p))),
     )
 
 pub regrouped-spec : {M : Type 1} → statement M

@@ -24,7 +24,10 @@ shared-slice-read-if1 : tie.Need-shared-slice-read-if1 Inv-loop μ-loop
 shared-slice-read-if1 c = search needs
 
 returns : tie.Need-returns Inv-loop μ-loop
-returns c = (search needs, used-here (c .before .before .before .before .args .part .now) (c .before .before .before .before .args .m) _ (c .before .before .before .loop .u) (c .before .before .before .loop .inv .1) (search needs) (c .if1 .taken))
+returns c =
+    let turn = c .before .before .before in
+    let start = turn .before in
+    (search needs, used-here (start .args .part .now) (start .args .m) _ (turn .loop .u) (turn .loop .inv .1) (search needs) (c .if1 .taken))
 
 add-u : tie.Need-add-u Inv-loop μ-loop
 add-u c = search needs
@@ -33,7 +36,10 @@ loop-less : tie.Need-loop-less Inv-loop μ-loop
 loop-less c = search needs
 
 loop-again : tie.Need-loop-again Inv-loop μ-loop
-loop-again c = (search needs, used-turn (c .before .before .before .before .args .part .now) (c .before .before .before .before .args .m) _ (c .before .before .before .loop .u) (c .before .before .before .loop .inv .1) (search needs) (c .if1 .left))
+loop-again c =
+    let turn = c .before .before .before in
+    let start = turn .before in
+    (search needs, used-turn (start .args .part .now) (start .args .m) _ (turn .loop .u) (turn .loop .inv .1) (search needs) (c .if1 .left))
 
 returns-2 : tie.Need-returns-2 Inv-loop μ-loop
 returns-2 c = (search needs, used-end (c .before .before .args .part .now) (c .before .before .args .m) _ (c .before .loop .u) (c .before .loop .inv .1) (search needs))

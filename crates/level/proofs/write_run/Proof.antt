@@ -31,8 +31,9 @@ element-copy-out-e c = search needs
 
 write-entry-requires : tie.Need-write-entry-requires Inv-loop μ-loop
 write-entry-requires c κs =
-    let l = c .before .before .before .loop in
-    let o = c .before .before .before .before .before in
+    let turn = c .before .before .before in
+    let o = turn .before .before in
+    let l = turn .loop in
     (search needs, small-turn (o .args .t3 .entries) _ (o .args .to) (l .j) (l .inv .3) (search needs) (omega (arith, hand-long o)) .0)
 
 add-i : tie.Need-add-i Inv-loop μ-loop
@@ -46,14 +47,16 @@ loop-less c = search needs
 
 loop-again : tie.Need-loop-again Inv-loop μ-loop
 loop-again c =
-    let l = c .before .before .before .before .before .before .loop in
-    let o = c .before .before .before .before .before .before .before .before in
+    let at-write-entry = c .before .before in
+    let turn = at-write-entry .before .before .before .before in
+    let o = turn .before .before in
+    let l = turn .loop in
     let a = o .args in (
       search needs,
       search needs,
       search needs,
       small-turn (a .t3 .entries) (record { kind = 0; key = 0; stamp = 0; value = 0 }) (a .to) (l .j) (l .inv .3) (search needs) (omega (arith, hand-long o)) .1,
-      puts-turn (a .t3 .entries) _ (a .to) _ (l .card) _ (l .i) (l .j) (c .before .before .write-entry .ensures) (l .inv .4) (search needs) (omega (arith, hand-long o)),
+      puts-turn (a .t3 .entries) _ (a .to) _ (l .card) _ (l .i) (l .j) (at-write-entry .write-entry .ensures) (l .inv .4) (search needs) (omega (arith, hand-long o)),
     )
 
 same-length : tie.Need-same-length Inv-loop μ-loop

@@ -15,9 +15,10 @@ add-write-entry c = search needs
 
 write-entry-requires-2 : tie.Need-write-entry-requires-2
 write-entry-requires-2 c κs =
-    let o = c .before .before .before .before .before .before .before .before .before in
-    let h = rw (c .before .before .before .before .before .if1 .taken) at (o .pre .0) in
-    (omega arith, (rw (c .before .before .before .before .before .if1 .taken) at (o .pre .1)) .1 .0)
+    let at-if1 = c .before .before .before .before .before in
+    let o = at-if1 .before .before .before .before in
+    let h = rw (at-if1 .if1 .taken) at (o .pre .0) in
+    (omega arith, (rw (at-if1 .if1 .taken) at (o .pre .1)) .1 .0)
 
 write-entry-requires-3 : tie.Need-write-entry-requires-3
 write-entry-requires-3 c κs =
@@ -29,13 +30,20 @@ same-length : tie.Need-same-length
 same-length c = search needs
 
 returns : tie.Need-returns
-returns c = rw (c .before .before .before .before .before .before .before .before .if1 .taken, c .before .before .write-entry2 .ensures, c .before .before .before .before .before .before .write-entry .ensures)
+returns c =
+    let at-write-entry2 = c .before .before in
+    let at-write-entry = at-write-entry2 .before .before .before .before in
+    let at-if1 = at-write-entry .before .before in
+    rw (at-if1 .if1 .taken, at-write-entry2 .write-entry2 .ensures, at-write-entry .write-entry .ensures)
 
 same-length-2 : tie.Need-same-length-2
 same-length-2 c = search needs
 
 returns-2 : tie.Need-returns-2
-returns-2 c = rw (c .before .before .before .before .if1 .left, c .before .before .write-entry3 .ensures)
+returns-2 c =
+    let at-write-entry3 = c .before .before in
+    let at-if1 = at-write-entry3 .before .before in
+    rw (at-if1 .if1 .left, at-write-entry3 .write-entry3 .ensures)
 
 pub write-sent-spec : {M : Type 1} → statement M
 write-sent-spec =

@@ -35,16 +35,20 @@ claims t = (new-root-reads.Asked, new-root-reads.Learnt, used-in-reads.Asked, us
 rise-new-root-requires : (t : ℕ) → rise-lts.Need-new-root-requires (claims t) (rise-at t) rise.Post
 rise-new-root-requires t c κs =
     let o = c .before .before .before .before in
+    let a = o .args in
     let e = c .before .if1 .taken in
-    ((end-ready (o .args .head) (o .args .stamp) (o .args .card .now) (o .args .path .now) (o .args .at) (o .args .p) (o .args .fresh) e (o .pre .1 .0 .0), o .pre .1 .0 .1), rw (← at-end (o .args .head) (o .args .stamp) (o .args .card .now) (o .args .path .now) (o .args .at) (o .args .p) (o .args .fresh) e) (o .pre .1 .1))
+    ((end-ready (a .head) (a .stamp) (a .card .now) (a .path .now) (a .at) (a .p) (a .fresh) e (o .pre .1 .0 .0), o .pre .1 .0 .1), rw (← at-end (a .head) (a .stamp) (a .card .now) (a .path .now) (a .at) (a .p) (a .fresh) e) (o .pre .1 .1))
 
 rise-same-length : (t : ℕ) → rise-lts.Need-same-length (claims t) (rise-at t) rise.Post
 rise-same-length t c = search needs
 
 rise-returns : (t : ℕ) → rise-lts.Need-returns (claims t) (rise-at t) rise.Post
 rise-returns t c =
-    let o = c .before .before .before .before .before .before .before in
-    rw (at-end (o .args .head) (o .args .stamp) (o .args .card .now) (o .args .path .now) (o .args .at) (o .args .p) (o .args .fresh) (c .before .before .before .before .if1 .taken)) (c .before .before .new-root .ensures)
+    let at-new-root = c .before .before in
+    let at-if1 = at-new-root .before .before in
+    let o = at-if1 .before .before .before in
+    let a = o .args in
+    rw (at-end (a .head) (a .stamp) (a .card .now) (a .path .now) (a .at) (a .p) (a .fresh) (at-if1 .if1 .taken)) (at-new-root .new-root .ensures)
 
 rise-mul-b : (t : ℕ) → rise-lts.Need-mul-b (claims t) (rise-at t) rise.Post
 rise-mul-b t c = search needs
@@ -54,8 +58,10 @@ rise-shared-slice-read-b t c = search needs
 
 rise-used-in-requires : (t : ℕ) → rise-lts.Need-used-in-requires (claims t) (rise-at t) rise.Post
 rise-used-in-requires t c κs =
-    let o = c .before .before .before .before .before in
-    (o .pre .1 .0 .0 .shape, here-read (o .args .head) (o .args .stamp) (o .args .card .now) (o .args .path .now) (o .args .at) (o .args .p) (o .args .fresh) (o .pre .1 .0 .0) (omega (arith, c .before .before .if1 .left)))
+    let at-if1 = c .before .before in
+    let o = at-if1 .before .before .before in
+    let a = o .args in
+    (o .pre .1 .0 .0 .shape, here-read (a .head) (a .stamp) (a .card .now) (a .path .now) (a .at) (a .p) (a .fresh) (o .pre .1 .0 .0) (omega (arith, at-if1 .if1 .left)))
 
 rise-sent-count-requires : (t : ℕ) → rise-lts.Need-sent-count-requires (claims t) (rise-at t) rise.Post
 rise-sent-count-requires t c κs = search needs
@@ -67,44 +73,64 @@ rise-add-if2 t c =
 
 rise-write-in-requires : (t : ℕ) → rise-lts.Need-write-in-requires (claims t) (rise-at t) rise.Post
 rise-write-in-requires t c κs =
-    let o = c .before .before .before .before .before .before .before .before .before in
-    let u = c .before .before .before .used-in .ensures in
-    let k = c .before .before .sent-count .ensures in
-    ((o .pre .1 .0 .0 .shape, here-read (o .args .head) (o .args .stamp) (o .args .card .now) (o .args .path .now) (o .args .at) (o .args .p) (o .args .fresh) (o .pre .1 .0 .0) (omega (arith, c .before .before .before .before .before .before .if1 .left)), u .0, o .pre .1 .0 .1), omega (arith, k .0, c .before .if2 .taken))
+    let at-sent-count = c .before .before in
+    let at-used-in = at-sent-count .before in
+    let at-if1 = at-used-in .before .before .before in
+    let o = at-if1 .before .before .before in
+    let a = o .args in
+    let u = at-used-in .used-in .ensures in
+    let k = at-sent-count .sent-count .ensures in
+    ((o .pre .1 .0 .0 .shape, here-read (a .head) (a .stamp) (a .card .now) (a .path .now) (a .at) (a .p) (a .fresh) (o .pre .1 .0 .0) (omega (arith, at-if1 .if1 .left)), u .0, o .pre .1 .0 .1), omega (arith, k .0, c .before .if2 .taken))
 
 rise-same-length-2 : (t : ℕ) → rise-lts.Need-same-length-2 (claims t) (rise-at t) rise.Post
 rise-same-length-2 t c = search needs
 
 rise-returns-2 : (t : ℕ) → rise-lts.Need-returns-2 (claims t) (rise-at t) rise.Post
 rise-returns-2 t c =
-    let o = c .before .before .before .before .before .before .before .before .before .before .before .before in
-    rw (ends-in (o .args .head) (o .args .stamp) (o .args .card .now) (o .args .path .now) (o .args .at) (o .args .p) (o .args .fresh) (o .pre .1 .0 .0) (omega (arith, c .before .before .before .before .before .before .before .before .before .if1 .left)) _ _ (c .before .before .before .before .before .before .used-in .ensures .0) (c .before .before .before .before .before .sent-count .ensures .0) (c .before .before .before .before .if2 .taken)) (c .before .before .write-in .ensures)
+    let at-write-in = c .before .before in
+    let at-if2 = at-write-in .before .before in
+    let at-sent-count = at-if2 .before in
+    let at-used-in = at-sent-count .before in
+    let at-if1 = at-used-in .before .before .before in
+    let o = at-if1 .before .before .before in
+    let a = o .args in
+    rw (ends-in (a .head) (a .stamp) (a .card .now) (a .path .now) (a .at) (a .p) (a .fresh) (o .pre .1 .0 .0) (omega (arith, at-if1 .if1 .left)) _ _ (at-used-in .used-in .ensures .0) (at-sent-count .sent-count .ensures .0) (at-if2 .if2 .taken)) (at-write-in .write-in .ensures)
 
 rise-rewrite-requires : (t : ℕ) → rise-lts.Need-rewrite-requires (claims t) (rise-at t) rise.Post
 rise-rewrite-requires t c κs =
-    let o = c .before .before .before .before .before .before .before .before .before in
-    let lt : o .args .at < length (o .args .path .now) = omega (arith, c .before .before .before .before .before .before .if1 .left) in
-    let u = c .before .before .before .used-in .ensures in
-    let k = c .before .before .sent-count .ensures .0 in
+    let at-sent-count = c .before .before in
+    let at-used-in = at-sent-count .before in
+    let at-if1 = at-used-in .before .before .before in
+    let o = at-if1 .before .before .before in
+    let a = o .args in
+    let lt : a .at < length (a .path .now) = omega (arith, at-if1 .if1 .left) in
+    let u = at-used-in .used-in .ensures in
+    let k = at-sent-count .sent-count .ensures .0 in
     let rd = o .pre .1 .0 .0 in
-    ((none-left rd, here-read (o .args .head) (o .args .stamp) (o .args .card .now) (o .args .path .now) (o .args .at) (o .args .p) (o .args .fresh) rd lt, u .0, o .pre .1 .0 .1), fits (o .args .head) (o .args .stamp) (o .args .card .now) (o .args .path .now) (o .args .at) (o .args .p) (o .args .fresh) rd lt _ _ (u .0) k (omega (arith, c .before .if2 .left)) (u .2) (o .pre .1 .1))
+    ((none-left rd, here-read (a .head) (a .stamp) (a .card .now) (a .path .now) (a .at) (a .p) (a .fresh) rd lt, u .0, o .pre .1 .0 .1), fits (a .head) (a .stamp) (a .card .now) (a .path .now) (a .at) (a .p) (a .fresh) rd lt _ _ (u .0) k (omega (arith, c .before .if2 .left)) (u .2) (o .pre .1 .1))
 
 rise-add-rise : (t : ℕ) → rise-lts.Need-add-rise (claims t) (rise-at t) rise.Post
 rise-add-rise t c = search needs
 
 rise-rise-requires : (t : ℕ) → rise-lts.Need-rise-requires (claims t) (rise-at t) rise.Post
 rise-rise-requires t c κs =
-    let o = c .before .before .before .before .before .before .before .before .before .before .before .before .before .before in
-    let lt : o .args .at < length (o .args .path .now) = omega (arith, c .before .before .before .before .before .before .before .before .before .before .before .if1 .left) in
-    let u = c .before .before .before .before .before .before .before .before .used-in .ensures in
-    let k = c .before .before .before .before .before .before .before .sent-count .ensures .0 in
-    let gt : o .args .head .m < c .before .before .before .before .before .before .before .before .used-in .result + c .before .before .before .before .before .before .before .sent-count .result = omega (arith, c .before .before .before .before .before .before .if2 .left) in
+    let at-rewrite = c .before .before .before .before in
+    let at-if2 = at-rewrite .before .before in
+    let at-sent-count = at-if2 .before in
+    let at-used-in = at-sent-count .before in
+    let at-if1 = at-used-in .before .before .before in
+    let o = at-if1 .before .before .before in
+    let a = o .args in
+    let lt : a .at < length (a .path .now) = omega (arith, at-if1 .if1 .left) in
+    let u = at-used-in .used-in .ensures in
+    let k = at-sent-count .sent-count .ensures .0 in
+    let gt : a .head .m < at-used-in .used-in .result + at-sent-count .sent-count .result = omega (arith, at-if2 .if2 .left) in
     let rd = o .pre .1 .0 .0 in
-    let w = c .before .before .before .before .rewrite .ensures in (
+    let w = at-rewrite .rewrite .ensures in (
       omega (arith, o .pre .0),
       (
-        (next-ready (o .args .head) (o .args .stamp) (o .args .card .now) (o .args .path .now) (o .args .at) (o .args .p) (o .args .fresh) rd lt _ _ (u .0) k gt (u .2) (o .pre .1 .1) (c .before .before .before .before .rewrite .result) (w .0) _ (w .1), w .0 .small, omega arith),
-        rw (← next-whole (o .args .head) (o .args .stamp) (o .args .card .now) (o .args .path .now) (o .args .at) (o .args .p) (o .args .fresh) rd lt _ _ (u .0) k gt (u .2) (o .pre .1 .1) (c .before .before .before .before .rewrite .result) (w .0) _ (w .1)) (o .pre .1 .1),
+        (next-ready (a .head) (a .stamp) (a .card .now) (a .path .now) (a .at) (a .p) (a .fresh) rd lt _ _ (u .0) k gt (u .2) (o .pre .1 .1) (at-rewrite .rewrite .result) (w .0) _ (w .1), w .0 .small, omega arith),
+        rw (← next-whole (a .head) (a .stamp) (a .card .now) (a .path .now) (a .at) (a .p) (a .fresh) rd lt _ _ (u .0) k gt (u .2) (o .pre .1 .1) (at-rewrite .rewrite .result) (w .0) _ (w .1)) (o .pre .1 .1),
       ),
     )
 
@@ -113,14 +139,21 @@ rise-same-length-3 t c = search needs
 
 rise-returns-3 : (t : ℕ) → rise-lts.Need-returns-3 (claims t) (rise-at t) rise.Post
 rise-returns-3 t c =
-    let o = c .before .before .before .before .before .before .before .before .before .before .before .before .before .before .before .before .before in
-    let lt : o .args .at < length (o .args .path .now) = omega (arith, c .before .before .before .before .before .before .before .before .before .before .before .before .before .before .if1 .left) in
-    let u = c .before .before .before .before .before .before .before .before .before .before .before .used-in .ensures in
-    let k = c .before .before .before .before .before .before .before .before .before .before .sent-count .ensures .0 in
-    let gt : o .args .head .m < c .before .before .before .before .before .before .before .before .before .before .before .used-in .result + c .before .before .before .before .before .before .before .before .before .before .sent-count .result = omega (arith, c .before .before .before .before .before .before .before .before .before .if2 .left) in
+    let at-rise = c .before .before in
+    let at-rewrite = at-rise .before .before .before .before .before in
+    let at-if2 = at-rewrite .before .before in
+    let at-sent-count = at-if2 .before in
+    let at-used-in = at-sent-count .before in
+    let at-if1 = at-used-in .before .before .before in
+    let o = at-if1 .before .before .before in
+    let a = o .args in
+    let lt : a .at < length (a .path .now) = omega (arith, at-if1 .if1 .left) in
+    let u = at-used-in .used-in .ensures in
+    let k = at-sent-count .sent-count .ensures .0 in
+    let gt : a .head .m < at-used-in .used-in .result + at-sent-count .sent-count .result = omega (arith, at-if2 .if2 .left) in
     let rd = o .pre .1 .0 .0 in
-    let w = c .before .before .before .before .before .before .before .rewrite .ensures in
-    rw (next-whole (o .args .head) (o .args .stamp) (o .args .card .now) (o .args .path .now) (o .args .at) (o .args .p) (o .args .fresh) rd lt _ _ (u .0) k gt (u .2) (o .pre .1 .1) (c .before .before .before .before .before .before .before .rewrite .result) (w .0) _ (w .1)) (c .before .before .rise .ensures)
+    let w = at-rewrite .rewrite .ensures in
+    rw (next-whole (a .head) (a .stamp) (a .card .now) (a .path .now) (a .at) (a .p) (a .fresh) rd lt _ _ (u .0) k gt (u .2) (o .pre .1 .1) (at-rewrite .rewrite .result) (w .0) _ (w .1)) (at-rise .rise .ensures)
 
 pub +rise-spec : {M : Type 1} → statement M
 +rise-spec = close μ-rise λ t. rise-lts.spec (claims t)

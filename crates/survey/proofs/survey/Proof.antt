@@ -40,9 +40,11 @@ loop-less c = search needs
 
 loop-again : tie.Need-loop-again Inv-loop μ-loop
 loop-again c =
-    let l = c .before .before .before .before .loop in
-    let o = c .before .before .before .before .before .before in
-    (search needs, l .inv .1 ∙ sym (survey-blank (o .args .head) (o .args .card .now) (l .b) (o .pre) (search needs) (ap zeros (sym (c .before .before .bucket-part .ensures .0)) ∙ sym (c .before .all-zero .ensures) ∙ c .if1 .taken)))
+    let at-bucket-part = c .before .before in
+    let turn = at-bucket-part .before .before in
+    let o = turn .before .before in
+    let l = turn .loop in
+    (search needs, l .inv .1 ∙ sym (survey-blank (o .args .head) (o .args .card .now) (l .b) (o .pre) (search needs) (ap zeros (sym (at-bucket-part .bucket-part .ensures .0)) ∙ sym (c .before .all-zero .ensures) ∙ c .if1 .taken)))
 
 top-stamp-requires : tie.Need-top-stamp-requires Inv-loop μ-loop
 top-stamp-requires c κs = search needs
@@ -55,13 +57,17 @@ loop-less-2 c = search needs
 
 loop-again-2 : tie.Need-loop-again-2 Inv-loop μ-loop
 loop-again-2 c =
-    let l = c .before .before .before .before .before .before .loop in
-    let o = c .before .before .before .before .before .before .before .before in
-    let part = c .before .before .before .before .bucket-part .ensures .0 in
+    let at-if1 = c .before .before in
+    let at-all-zero = at-if1 .before in
+    let at-bucket-part = at-all-zero .before in
+    let turn = at-bucket-part .before .before in
+    let o = turn .before .before in
+    let l = turn .loop in
+    let part = at-bucket-part .bucket-part .ensures .0 in
     let s = c .later .ensures ∙ ap₂ max (ap (λ (a : Area). a .stamp) (l .inv .1)) (c .before .top-stamp .ensures ∙ ap (λ (p : List ℕ). topStamp p 0 (o .args .head .m)) part) in (
       search needs,
       ap (λ (k : ℕ). record { stamp = k; used = l .b + 1 }) s
-          ∙ sym (survey-full (o .args .head) (o .args .card .now) (l .b) (o .pre) (search needs) (ap zeros (sym part) ∙ sym (c .before .before .before .all-zero .ensures) ∙ c .before .before .if1 .left)),
+          ∙ sym (survey-full (o .args .head) (o .args .card .now) (l .b) (o .pre) (search needs) (ap zeros (sym part) ∙ sym (at-all-zero .all-zero .ensures) ∙ at-if1 .if1 .left)),
     )
 
 returns : tie.Need-returns Inv-loop μ-loop

@@ -46,8 +46,9 @@ loop-less c = search needs
 
 loop-again : tie.Need-loop-again Inv-loop μ-loop
 loop-again c =
-    let l = c .before .before .before .before .loop in
-    let o = c .before .before .before .before .before .before in
+    let turn = c .before .before .before .before in
+    let o = turn .before .before in
+    let l = turn .loop in
     (search needs, stamp-turn (o .args .part .now) (o .args .m) (l .i) (l .top) _ _ _ (search needs) (l .inv .1) (c .before .stamp-of .ensures) (c .later .ensures))
 
 returns : tie.Need-returns Inv-loop μ-loop

@@ -42,13 +42,18 @@ add-reads : tie.Need-add-reads Inv-loop μ-loop
 add-reads c = search needs
 
 sub-start : tie.Need-sub-start Inv-loop μ-loop
-sub-start c = let o = c .before .before .before .before .before in omega (arith, o .pre .0 .lim .n4096)
+sub-start c =
+    let o = c .before .before .before .before .before in
+    omega (arith, o .pre .0 .lim .n4096)
 
 mul-path : tie.Need-mul-path Inv-loop μ-loop
 mul-path c = search needs
 
 slice-write-path : tie.Need-slice-write-path Inv-loop μ-loop
-slice-write-path c = let o = c .before .before .before .before .before in omega (arith, o .pre .0 .lim .n4096, c .before .before .loop .inv .3)
+slice-write-path c =
+    let turn = c .before .before in
+    let o = turn .before .before .before in
+    omega (arith, o .pre .0 .lim .n4096, turn .loop .inv .3)
 
 enum-told : tie.Need-enum-told Inv-loop μ-loop
 enum-told c = search needs
@@ -57,7 +62,10 @@ lost-requires-2 : tie.Need-lost-requires-2 Inv-loop μ-loop
 lost-requires-2 c κs = search needs
 
 same-length-2 : tie.Need-same-length-2 Inv-loop μ-loop
-same-length-2 c = simp length-set (omega (arith, c .before .before .before .before .before .loop .inv .3, c .before .before .before .before .before .before .before .before .pre .3))
+same-length-2 c =
+    let turn = c .before .before .before .before .before in
+    let start = turn .before .before .before in
+    simp length-set (omega (arith, turn .loop .inv .3, start .pre .3))
 
 returns-2 : tie.Need-returns-2 Inv-loop μ-loop
 returns-2 c =
@@ -88,7 +96,10 @@ enum-told-2 : tie.Need-enum-told-2 Inv-loop μ-loop
 enum-told-2 c = search needs
 
 same-length-3 : tie.Need-same-length-3 Inv-loop μ-loop
-same-length-3 c = simp length-set (omega (arith, c .before .before .before .before .loop .inv .3, c .before .before .before .before .before .before .before .pre .3))
+same-length-3 c =
+    let turn = c .before .before .before .before in
+    let start = turn .before .before .before in
+    simp length-set (omega (arith, turn .loop .inv .3, start .pre .3))
 
 returns-3 : tie.Need-returns-3 Inv-loop μ-loop
 returns-3 c =
@@ -103,7 +114,10 @@ enum-known-way-2 : tie.Need-enum-known-way-2 Inv-loop μ-loop
 enum-known-way-2 c = search needs
 
 same-length-4 : tie.Need-same-length-4 Inv-loop μ-loop
-same-length-4 c = simp length-set (omega (arith, c .before .before .before .before .before .loop .inv .3, c .before .before .before .before .before .before .before .before .pre .3))
+same-length-4 c =
+    let turn = c .before .before .before .before .before in
+    let start = turn .before .before .before in
+    simp length-set (omega (arith, turn .loop .inv .3, start .pre .3))
 
 returns-4 : tie.Need-returns-4 Inv-loop μ-loop
 returns-4 c =

@@ -19,15 +19,19 @@ lost-requires c κs = search needs
 
 returns : tie.Need-returns
 returns c =
-    let o = c .before .before .before .before .before in
+    let at-find-root = c .before .before in
+    let o = at-find-root .before .before .before in
+    let a = o .args in
     lost-leads _ _ _ (c .lost .ensures) (o .pre .1)
-    (no-root (o .args .head) (now (o .args .card)) (o .args .key) _ (c .before .match .keys2) ∙ ap (trackFrom (o .args .head) (now (o .args .card)) (o .args .key)) (c .before .before .find-root .ensures))
+    (no-root (a .head) (now (a .card)) (a .key) _ (c .before .match .keys2) ∙ ap (trackFrom (a .head) (now (a .card)) (a .key)) (at-find-root .find-root .ensures))
 
 descend-requires : tie.Need-descend-requires
 descend-requires c κs =
-    let o = c .before .before .before .before .before .before .before in
+    let at-found = c .before .before in
+    let at-find-root = at-found .before .before in
+    let o = at-find-root .before .before .before in
     let n = o .args .head .n in
-    let inside = root-found n (now (o .args .card)) 4294967295 1 n _ (sym (c .before .before .before .before .find-root .ensures) ∙ c .before .before .found .given .1) in
+    let inside = root-found n (now (o .args .card)) 4294967295 1 n _ (sym (at-find-root .find-root .ensures) ∙ at-found .found .given .1) in
     (o .pre .0, inside .0, inside .1, o .pre .1)
 
 same-length : tie.Need-same-length
@@ -35,11 +39,15 @@ same-length c = search needs
 
 returns-2 : tie.Need-returns-2
 returns-2 c =
-    let o = c .before .before .before .before .before .before .before .before .before .before in
+    let at-descend = c .before .before in
+    let at-found = at-descend .before .before .before in
+    let at-find-root = at-found .before .before in
+    let o = at-find-root .before .before .before in
+    let a = o .args in
     subst (Leads _ _)
-    (hit-from (o .args .head) (now (o .args .card)) (o .args .key) (o .args .path .now) _ _ (o .pre .1) (c .before .before .before .before .before .found .given .1)
-    ∙ ap (trackFrom (o .args .head) (now (o .args .card)) (o .args .key)) (c .before .before .before .before .before .before .before .find-root .ensures))
-    (c .before .before .descend .ensures)
+    (hit-from (a .head) (now (a .card)) (a .key) (a .path .now) _ _ (o .pre .1) (at-found .found .given .1)
+    ∙ ap (trackFrom (a .head) (now (a .card)) (a .key)) (at-find-root .find-root .ensures))
+    (at-descend .descend .ensures)
 
 pub walk-down-spec : {M : Type 1} → statement M
 walk-down-spec =

@@ -29,9 +29,11 @@ same-length c = search needs
 
 returns : tie.Need-returns
 returns c =
-    let o = c .before .before .before .before .before .before in
-    let none = broken-none _ (sym (c .before .before .before .read-head .ensures) ∙ c .before .enum-told .given .1) in
-    let f = refuses (plan (o .args .card .now) (o .args .e)) (o .args .card .now) _ 1 (no-head (o .args .card .now) (o .args .e) none) (c .refusal .ensures) in
+    let at-read-head = c .before .before .before in
+    let o = at-read-head .before .before .before in
+    let a = o .args in
+    let none = broken-none _ (sym (at-read-head .read-head .ensures) ∙ c .before .enum-told .given .1) in
+    let f = refuses (plan (a .card .now) (a .e)) (a .card .now) _ 1 (no-head (a .card .now) (a .e) none) (c .refusal .ensures) in
     (f .answer, f .bytes)
 
 refusal-requires-2 : tie.Need-refusal-requires-2
@@ -42,15 +44,20 @@ same-length-2 c = search needs
 
 returns-2 : tie.Need-returns-2
 returns-2 c =
-    let o = c .before .before .before .before .before .before .before .before .before in
-    let hq = sound-some _ _ (sym (c .before .before .before .before .before .before .read-head .ensures) ∙ c .before .before .before .before .layout .given .1) in
-    let f = refuses (plan (o .args .card .now) (o .args .e)) (o .args .card .now) _ 2 (no-bib (o .args .card .now) (o .args .e) _ hq (c .before .if1 .taken)) (c .refusal2 .ensures) in
+    let at-layout = c .before .before .before .before in
+    let at-read-head = at-layout .before .before in
+    let o = at-read-head .before .before .before in
+    let a = o .args in
+    let hq = sound-some _ _ (sym (at-read-head .read-head .ensures) ∙ at-layout .layout .given .1) in
+    let f = refuses (plan (a .card .now) (a .e)) (a .card .now) _ 2 (no-bib (a .card .now) (a .e) _ hq (c .before .if1 .taken)) (c .refusal2 .ensures) in
     (f .answer, f .bytes)
 
 survey-requires : tie.Need-survey-requires
 survey-requires c κs =
-    let o = c .before .before .before .before .before .before .before .before .before in
-    let hq = sound-some _ _ (sym (c .before .before .before .before .before .before .read-head .ensures) ∙ c .before .before .before .before .layout .given .1) in
+    let at-layout = c .before .before .before .before in
+    let at-read-head = at-layout .before .before in
+    let o = at-read-head .before .before .before in
+    let hq = sound-some _ _ (sym (at-read-head .read-head .ensures) ∙ at-layout .layout .given .1) in
     shape-of (o .args .card .now) _ hq
 
 refusal-requires-3 : tie.Need-refusal-requires-3
@@ -62,18 +69,26 @@ same-length-3 c = search needs
 returns-3 : tie.Need-returns-3
 unfolding surveyOf stampOn
 returns-3 c =
-    let o = c .before .before .before .before .before .before .before .before .before .before .before .before .before .before in
-    let hq = sound-some _ _ (sym (c .before .before .before .before .before .before .before .before .before .before .before .read-head .ensures) ∙ c .before .before .before .before .before .before .before .before .before .layout .given .1) in
-    let s = ap (λ (y : Area). y .stamp) (c .before .before .before .before .survey .ensures) in
-    let f = refuses (plan (o .args .card .now) (o .args .e)) (o .args .card .now) _ 3 (stale (o .args .card .now) (o .args .e) _ hq (c .before .before .before .before .before .before .if1 .left) (omega (arith, c .before .if2 .taken))) (c .refusal3 .ensures) in
+    let at-survey = c .before .before .before .before in
+    let at-if1 = at-survey .before .before in
+    let at-layout = at-if1 .before .before .before in
+    let at-read-head = at-layout .before .before in
+    let o = at-read-head .before .before .before in
+    let a = o .args in
+    let hq = sound-some _ _ (sym (at-read-head .read-head .ensures) ∙ at-layout .layout .given .1) in
+    let s = ap (λ (y : Area). y .stamp) (at-survey .survey .ensures) in
+    let f = refuses (plan (a .card .now) (a .e)) (a .card .now) _ 3 (stale (a .card .now) (a .e) _ hq (at-if1 .if1 .left) (omega (arith, c .before .if2 .taken))) (c .refusal3 .ensures) in
     (f .answer, f .bytes)
 
 insert-requires : tie.Need-insert-requires
 unfolding surveyOf
 insert-requires c κs =
-    let o = c .before .before .before .before .before .before .before .before .before .before .before .before .before .before in
-    let hq = sound-some _ _ (sym (c .before .before .before .before .before .before .before .before .before .before .before .read-head .ensures) ∙ c .before .before .before .before .before .before .before .before .before .layout .given .1) in
-    (hq, o .pre, ap (λ (y : Area). y .used) (c .before .before .before .before .survey .ensures))
+    let at-survey = c .before .before .before .before in
+    let at-layout = at-survey .before .before .before .before .before in
+    let at-read-head = at-layout .before .before in
+    let o = at-read-head .before .before .before in
+    let hq = sound-some _ _ (sym (at-read-head .read-head .ensures) ∙ at-layout .layout .given .1) in
+    (hq, o .pre, ap (λ (y : Area). y .used) (at-survey .survey .ensures))
 
 same-length-4 : tie.Need-same-length-4
 same-length-4 c = search needs
@@ -81,11 +96,18 @@ same-length-4 c = search needs
 returns-4 : tie.Need-returns-4
 unfolding surveyOf stampOn
 returns-4 c =
-    let o = c .before .before .before .before .before .before .before .before .before .before .before .before .before .before .before .before .before in
-    let hq = sound-some _ _ (sym (c .before .before .before .before .before .before .before .before .before .before .before .before .before .before .read-head .ensures) ∙ c .before .before .before .before .before .before .before .before .before .before .before .before .layout .given .1) in
-    let s = ap (λ (y : Area). y .stamp) (c .before .before .before .before .before .before .before .survey .ensures) in
-    let l = c .before .before .insert .ensures in
-    let f = follows-same _ _ (o .args .card .now) _ _ (goes-in (o .args .card .now) (o .args .e) _ hq (c .before .before .before .before .before .before .before .before .before .if1 .left) (omega (arith, c .before .before .before .before .if2 .left))) (record { answer = l .0; bytes = l .1 }) in
+    let at-insert = c .before .before in
+    let at-if2 = at-insert .before .before in
+    let at-survey = at-if2 .before .before .before in
+    let at-if1 = at-survey .before .before in
+    let at-layout = at-if1 .before .before .before in
+    let at-read-head = at-layout .before .before in
+    let o = at-read-head .before .before .before in
+    let a = o .args in
+    let hq = sound-some _ _ (sym (at-read-head .read-head .ensures) ∙ at-layout .layout .given .1) in
+    let s = ap (λ (y : Area). y .stamp) (at-survey .survey .ensures) in
+    let l = at-insert .insert .ensures in
+    let f = follows-same _ _ (a .card .now) _ _ (goes-in (a .card .now) (a .e) _ hq (at-if1 .if1 .left) (omega (arith, at-if2 .if2 .left))) (record { answer = l .0; bytes = l .1 }) in
     (f .answer, f .bytes)
 
 pub enter-spec : {M : Type 1} → statement M

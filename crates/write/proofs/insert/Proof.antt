@@ -29,11 +29,14 @@ same-length c = search needs
 
 returns : tie.Need-returns
 returns c =
-    let o = c .before .before .before .before .before .before .before .before in
-    let lead = c .before .before .before .before .walk-down .ensures in
-    let tw = track-walk (o .args .head) (o .args .card .now) (o .args .e .key) in
+    let at-objection = c .before .before in
+    let at-walk-down = at-objection .before .before in
+    let o = at-walk-down .before .before .before .before in
+    let a = o .args in
+    let lead = at-walk-down .walk-down .ensures in
+    let tw = track-walk (a .head) (a .card .now) (a .e .key) in
     let is = lead .found ∙ ap (λ (y : Track). y .found) tw in
-    let f = refuses (planAt (o .args .head) (o .args .card .now) (o .args .e) (walk (o .args .head) (o .args .card .now) latest (o .args .e .key))) (o .args .card .now) _ _ (at-refused (o .args .head) (o .args .card .now) (o .args .e) _ _ is (c .before .before .objection .ensures) (c .before .if1 .taken)) (c .refusal .ensures) in
+    let f = refuses (planAt (a .head) (a .card .now) (a .e) (walk (a .head) (a .card .now) latest (a .e .key))) (a .card .now) _ _ (at-refused (a .head) (a .card .now) (a .e) _ _ is (at-objection .objection .ensures) (c .before .if1 .taken)) (c .refusal .ensures) in
     (f .answer, f .bytes)
 
 slice-aggregate-lay : tie.Need-slice-aggregate-lay
@@ -41,24 +44,33 @@ slice-aggregate-lay c = search needs
 
 lay-requires : tie.Need-lay-requires
 lay-requires c κs =
-    let o = c .before .before .before .before .before .before .before .before .before in
-    let lead = c .before .before .before .before .before .walk-down .ensures in
-    let tw = track-walk (o .args .head) (o .args .card .now) (o .args .e .key) in
+    let at-if1 = c .before .before in
+    let at-objection = at-if1 .before in
+    let at-walk-down = at-objection .before .before in
+    let o = at-walk-down .before .before .before .before in
+    let a = o .args in
+    let lead = at-walk-down .walk-down .ensures in
+    let tw = track-walk (a .head) (a .card .now) (a .e .key) in
     let is = lead .found ∙ ap (λ (y : Track). y .found) tw in
-    let came = at-came (o .args .head) (o .args .card .now) (o .args .e) _ _ is (c .before .before .before .objection .ensures) (c .before .before .if1 .left) in
-    ((o .pre .0, came, o .pre .1, o .pre .2), (lead .levels ∙ ap (λ (y : Track). y .path) tw ∙ came-path (o .args .head) (o .args .card .now) (o .args .e .key) came, omega (arith, lead .most, lead .long), lead .long))
+    let came = at-came (a .head) (a .card .now) (a .e) _ _ is (at-objection .objection .ensures) (at-if1 .if1 .left) in
+    ((o .pre .0, came, o .pre .1, o .pre .2), (lead .levels ∙ ap (λ (y : Track). y .path) tw ∙ came-path (a .head) (a .card .now) (a .e .key) came, omega (arith, lead .most, lead .long), lead .long))
 
 same-length-2 : tie.Need-same-length-2
 same-length-2 c = search needs
 
 returns-2 : tie.Need-returns-2
 returns-2 c =
-    let o = c .before .before .before .before .before .before .before .before .before .before .before .before in
-    let lead = c .before .before .before .before .before .before .before .before .walk-down .ensures in
-    let tw = track-walk (o .args .head) (o .args .card .now) (o .args .e .key) in
+    let at-lay = c .before .before in
+    let at-if1 = at-lay .before .before .before in
+    let at-objection = at-if1 .before in
+    let at-walk-down = at-objection .before .before in
+    let o = at-walk-down .before .before .before .before in
+    let a = o .args in
+    let lead = at-walk-down .walk-down .ensures in
+    let tw = track-walk (a .head) (a .card .now) (a .e .key) in
     let is = lead .found ∙ ap (λ (y : Track). y .found) tw in
-    let l = c .before .before .lay .ensures in
-    let f = follows-same _ _ (o .args .card .now) _ _ (at-goes-on (o .args .head) (o .args .card .now) (o .args .e) _ _ is (c .before .before .before .before .before .before .objection .ensures) (c .before .before .before .before .before .if1 .left)) (record { answer = l .0; bytes = l .1 }) in
+    let l = at-lay .lay .ensures in
+    let f = follows-same _ _ (a .card .now) _ _ (at-goes-on (a .head) (a .card .now) (a .e) _ _ is (at-objection .objection .ensures) (at-if1 .if1 .left)) (record { answer = l .0; bytes = l .1 }) in
     (f .answer, f .bytes)
 
 pub insert-spec : {M : Type 1} → statement M

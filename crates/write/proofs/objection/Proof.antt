@@ -24,7 +24,10 @@ returns-2 c = rw (c .before .before .found .given .1, eq-eqb _ _ (c .if2 .taken)
 
 returns-3 : tie.Need-returns-3
 unfolding codeOf
-returns-3 c = rw (c .before .before .before .before .found .given .1, ne-eqb _ _ (c .before .before .if2 .left), eq-eqb _ _ (c .if3 .taken))
+returns-3 c =
+    let at-if2 = c .before .before in
+    let at-found = at-if2 .before .before in
+    rw (at-found .found .given .1, ne-eqb _ _ (at-if2 .if2 .left), eq-eqb _ _ (c .if3 .taken))
 
 returns-4 : tie.Need-returns-4
 unfolding codeOf
@@ -36,7 +39,10 @@ returns-5 c = rw (c .before .enum-told2 .given .1, ne-eqb _ _ (c .if1 .left))
 
 returns-6 : tie.Need-returns-6
 unfolding codeOf
-returns-6 c = rw (c .before .before .before .before .found .given .1, ne-eqb _ _ (c .before .before .if2 .left), ne-eqb _ _ (c .if3 .left))
+returns-6 c =
+    let at-if2 = c .before .before in
+    let at-found = at-if2 .before .before in
+    rw (at-found .found .given .1, ne-eqb _ _ (at-if2 .if2 .left), ne-eqb _ _ (c .if3 .left))
 
 pub objection-spec : {M : Type 1} → statement M
 objection-spec =

@@ -33,9 +33,11 @@ same-length c = search needs
 returns : tie.Need-returns
 unfolding put
 returns c =
-    let a = c .before .before .before .before .before .args in
+    let at-write-sector = c .before .before in
+    let start = at-write-sector .before .before .before in
+    let a = start .args in
     let k : 16 * a .i + 16 - 16 * a .i ≡ 16 = omega arith in
-    rw (k, c .before .before .write-sector .ensures) (lent-back (a .card .now) (fourWords (a .first) (a .key) (a .stamp) (a .value)) (a .i))
+    rw (k, at-write-sector .write-sector .ensures) (lent-back (a .card .now) (fourWords (a .first) (a .key) (a .stamp) (a .value)) (a .i))
 
 pub lend-spec : {M : Type 1} → statement M
 lend-spec =

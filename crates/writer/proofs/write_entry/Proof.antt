@@ -14,8 +14,10 @@ same-length c = search needs
 
 returns : tie.Need-returns
 returns c =
-    let a = c .before .before .before .before .before .args in
-    c .before .before .lend .ensures ∙ ap (put (a .card .now) (a .i)) (entry-words (a .e) (c .before .before .before .before .before .pre .1))
+    let at-lend = c .before .before in
+    let start = at-lend .before .before .before in
+    let a = start .args in
+    at-lend .lend .ensures ∙ ap (put (a .card .now) (a .i)) (entry-words (a .e) (start .pre .1))
 
 pub write-entry-spec : {M : Type 1} → statement M
 write-entry-spec = tie.close (tie.spec lend-requires same-length returns)

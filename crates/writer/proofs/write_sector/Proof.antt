@@ -57,11 +57,15 @@ same-length c = search needs
 
 returns : tie.Need-returns
 returns c =
-    let o = c .before .before .before .before .before .before .before .before .before .before .before .before .before .before .before .before .before in
-    let w1 = c .before .before .before .before .before .before .before .before .before .before .before .before .before .before .write-word .ensures in
-    let w2 = c .before .before .before .before .before .before .before .before .before .before .write-word2 .ensures in
-    let w3 = c .before .before .before .before .before .before .write-word3 .ensures in
-    let w4 = c .before .before .write-word4 .ensures in
+    let at-write-word4 = c .before .before in
+    let at-write-word3 = at-write-word4 .before .before .before .before in
+    let at-write-word2 = at-write-word3 .before .before .before .before in
+    let at-write-word = at-write-word2 .before .before .before .before in
+    let o = at-write-word .before .before .before in
+    let w1 = at-write-word .write-word .ensures in
+    let w2 = at-write-word2 .write-word2 .ensures in
+    let w3 = at-write-word3 .write-word3 .ensures in
+    let w4 = at-write-word4 .write-word4 .ensures in
     four-lent (o .args .sector .now) _ _ _ _ _ _ _ _ (o .pre) w1 w2 w3 w4
 
 pub write-sector-spec : {M : Type 1} → statement M
