@@ -57,7 +57,7 @@ fn descend(card: &[u8], head: Head, root: u32, key: u32, stamp: u32) -> Trip
 }
 
 // The walk to a key as of a stamp, from the log's last root entry left.
-pub fn walk(card: &[u8], head: Head, key: u32, stamp: u32) -> Trip
+fn walk(card: &[u8], head: Head, key: u32, stamp: u32) -> Trip
     requires { ⌜ Shape head (now card) ⌝ }
     ensures { λ r. ⌜ r ≡ tripFrom head (now (card .entry)) key stamp (searchLog stamp (sectors (head .n) (now (card .entry)) 1 (head .n))) ⌝ }
 {

@@ -93,7 +93,7 @@ fn objection(kind: u32, found: Found) -> u32
 }
 
 // The entry in its bucket, or what refuses it from the walk on. `used` is the highest bucket with a nonzero byte.
-pub fn insert(card: &mut [u8], head: Head, e: Entry, used: usize) -> Answer
+fn insert(card: &mut [u8], head: Head, e: Entry, used: usize) -> Answer
     requires { ⌜ (headOf (now card) ≡ some head) × (e .kind < 256) × (used ≡ topUsed head (now card) (head .n)) ⌝ }
     ensures { λ r. ⌜ r ≡ planAnswer (planAt head (now (card .entry)) e (walk head (now (card .entry)) 4294967295 (e .key))) ⌝ }
     ensures { λ _. ⌜ now (card .exit) ≡ planCard (now (card .entry)) (planAt head (now (card .entry)) e (walk head (now (card .entry)) 4294967295 (e .key))) ⌝ }
