@@ -1,4 +1,4 @@
--- A turn and the end of a roll of records, counted and puts down.
+-- A turn and the end of a roll of records, counted and laid down.
 use mathlib.Core.Path.{_≡_, refl, ap, sym, _∙_}
 use mathlib.Core.Bool.{Bool, true, false}
 use mathlib.Core.List.{List, [], _∷_}

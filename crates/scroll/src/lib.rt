@@ -44,14 +44,14 @@ pub fn step<'s, 'a>(s: &'s mut Scroll<'a>) -> Answer
     a
 }
 
-// How many records were puts down, beside 0; or no record, beside the number of a refusal.
+// How many records were laid down, beside 0; or no record, beside the number of a refusal.
 #[repr(C)]
 pub struct Tally {
     pub code: u32,
     pub count: usize,
 }
 
-// The records above a bib as of a stamp, puts down as post sectors, as many as fit. They are counted first: a refusal met on
+// The records above a bib as of a stamp, laid down as post sectors, as many as fit. They are counted first: a refusal met on
 // the way leaves the buffer as it was.
 pub fn records(card: &[u8], bib: u32, at: u32, out: &mut [u8]) -> Tally
     ensures { λ r. ⌜ r ≡ tallyOf (given (rolled (now (card .entry)) at (length (now (out .entry)) / 16) bib)) ⌝ }

@@ -1,4 +1,4 @@
-// The records of a scroll in a row: counted, and puts down.
+// The records of a scroll in a row: counted, and laid down.
 ghost use mathlib.Core.Path.{_≡_};
 ghost use Prim.Native.Nat.{_*_, _≤_};
 ghost use lib.ListN.{length};

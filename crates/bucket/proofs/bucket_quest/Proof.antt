@@ -1,3 +1,4 @@
+-- `bucket::bucket_quest` meets its contract.
 use Rattle.rules.specs.Sector.{isIndex}
 use Rattle.bucket.specs.Quests.{bucketQuest}
 use borrow.Author.Needs.{needs}

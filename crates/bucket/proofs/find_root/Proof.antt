@@ -1,3 +1,4 @@
+-- `bucket::find_root` meets its contract: the last root entry of the log stamped `stamp` or earlier.
 use denote.Ref.{now}
 use Rattle.laws.proofs.Heads.{log-fits}
 use Rattle.bucket.proofs.Quests.{log-found}

@@ -1,3 +1,4 @@
+-- `bucket::log_part` meets its contract: the n x 16 bytes of the root log.
 use native.Mathlib.Omega.{arith}
 use native.Mathlib.Nat.{add-sub-cancel-left}
 use lib.ListN.{length-take, length-drop}

@@ -1,3 +1,4 @@
+-- `bucket::log_quest` meets its contract.
 use Rattle.bucket.specs.Quests.{logQuest}
 use borrow.Author.Needs.{needs}
 use Rattle.bucket.proofs.log_quest.Statement.{statement}

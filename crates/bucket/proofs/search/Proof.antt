@@ -1,3 +1,4 @@
+-- `bucket::search` meets its contract: the search of bucket b of the card.
 use denote.Ref.{now}
 use Rattle.laws.proofs.Heads.{bucket-fits}
 use Rattle.scan.proofs.Parts.{search-part}

@@ -1,3 +1,4 @@
+-- `next::arrive` meets its contract: where a walk ends, in the data bucket b: the bib that is next, or the index key to walk to.
 use denote.Ref.{now}
 use Rattle.laws.proofs.Heads.{bucket-fits}
 use Rattle.scan.specs.Next.{legOf}

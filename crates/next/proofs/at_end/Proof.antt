@@ -1,3 +1,4 @@
+-- `next::at_end` meets its contract.
 use Rattle.rules.specs.Answers.{ended}
 use borrow.Author.Needs.{needs}
 use Rattle.next.proofs.at_end.Statement.{statement}

@@ -1,3 +1,4 @@
+-- `next::key_above` meets its contract: the least index key above x, with bucket b's.
 use denote.Ref.{now}
 use Rattle.laws.proofs.Heads.{bucket-fits}
 use Rattle.scan.proofs.Parts.{part-sectors}

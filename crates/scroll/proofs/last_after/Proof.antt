@@ -1,3 +1,4 @@
+-- `scroll::last_after` meets its contract: at the end no bib is given.
 use borrow.Author.Needs.{needs}
 use borrow.Author.Tests.{eq-eqb, ne-eqb}
 use Rattle.scroll.specs.Scroll.{lastAfter}

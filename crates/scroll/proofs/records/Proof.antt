@@ -1,3 +1,4 @@
+-- `scroll::records` meets its contract: the records above a bib as of a stamp, laid down as post sectors, as many as fit.
 use borrow.Author.Needs.{needs}
 use denote.Ref.{now}
 use Rattle.scroll.proofs.Rolls.{records-all, records-none}

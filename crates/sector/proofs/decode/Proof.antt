@@ -1,3 +1,4 @@
+-- `sector::decode` meets its contract: what a sector is, on a card of n buckets.
 use denote.Ref.{now}
 use Rattle.scan.proofs.Words.{decode-words}
 use borrow.Author.Needs.{needs}

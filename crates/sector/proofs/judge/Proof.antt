@@ -1,3 +1,4 @@
+-- `sector::judge` meets its contract: what four words of a sector are.
 use mathlib.Core.Path.{sym, _∙_}
 use borrow.Author.Tests.{eq-eqb, ne-eqb}
 use Rattle.scan.specs.Words.{judged}

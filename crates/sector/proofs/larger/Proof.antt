@@ -1,3 +1,4 @@
+-- `sector::larger` meets its contract: the larger of two bytes: zero only where both are.
 use Rattle.sector.proofs.Zeros.{larger-right, larger-left}
 use Rattle.sector.proofs.larger.Statement.{statement}
 use Rattle.sector.proofs.larger.Tie as tie

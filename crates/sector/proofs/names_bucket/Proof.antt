@@ -1,3 +1,4 @@
+-- `sector::names_bucket` meets its contract: whether a value names one of n buckets.
 use borrow.Author.Needs.{needs}
 use borrow.Author.Tests.{le-leb, lt-leb}
 use Rattle.sector.proofs.names_bucket.Statement.{statement}

@@ -1,3 +1,4 @@
+-- `sector::read_word` meets its contract: the number of 32 bits in the four bytes from `at`.
 use Rattle.rules.specs.Sector.{word}
 use borrow.Author.Needs.{needs}
 use Rattle.sector.proofs.read_word.Statement.{statement}

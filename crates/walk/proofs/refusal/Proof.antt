@@ -1,3 +1,4 @@
+-- `walk::refusal` meets its contract: the answer that refuses, with its number.
 use Rattle.rules.specs.Answers.{refused}
 use borrow.Author.Needs.{needs}
 use Rattle.walk.proofs.refusal.Statement.{statement}

@@ -1,3 +1,4 @@
+-- `walk::tell` meets its contract: the answer that a walk's end gives: a strike, or no copy, is none.
 use borrow.Author.Tests.{eq-eqb, ne-eqb}
 use Rattle.rules.specs.Answers.{sheet}
 use Rattle.rules.specs.Sector.{isPost}

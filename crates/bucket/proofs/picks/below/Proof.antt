@@ -1,3 +1,4 @@
+-- `bucket::picks::below` meets its contract.
 use borrow.Author.Tests.{le-leb, lt-leb}
 use Rattle.scan.specs.Scan.{below}
 use borrow.Author.Needs.{needs}

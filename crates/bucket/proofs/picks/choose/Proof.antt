@@ -1,3 +1,4 @@
+-- `bucket::picks::choose` meets its contract: in an index bucket the largest key not above x, in a data bucket x itself.
 use Rattle.scan.specs.Scan.{choose}
 use borrow.Author.Needs.{needs}
 use Rattle.bucket.proofs.picks.choose.Statement.{statement}

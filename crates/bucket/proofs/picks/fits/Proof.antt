@@ -1,3 +1,4 @@
+-- `bucket::picks::fits` meets its contract: whether the entry may stand where the scan reads.
 use Rattle.rules.specs.Sector.{isRoot}
 use Rattle.bucket.specs.Quests.{fits}
 use borrow.Author.Needs.{needs}

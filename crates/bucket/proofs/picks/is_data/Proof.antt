@@ -1,3 +1,4 @@
+-- `bucket::picks::is_data` meets its contract.
 use borrow.Author.Tests.{eq-eqb, ne-eqb}
 use Rattle.rules.specs.Sector.{isData}
 use borrow.Author.Needs.{needs}

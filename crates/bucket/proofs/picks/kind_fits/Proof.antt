@@ -1,3 +1,4 @@
+-- `bucket::picks::kind_fits` meets its contract.
 use Rattle.rules.specs.Sector.{isIndex}
 use Rattle.bucket.specs.Quests.{kindFits}
 use borrow.Author.Needs.{needs}

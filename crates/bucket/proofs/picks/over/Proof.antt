@@ -1,3 +1,4 @@
+-- `bucket::picks::over` meets its contract: the larger key, of one key the later copy.
 use borrow.Author.Tests.{le-leb, lt-leb}
 use Rattle.scan.specs.Scan.{over}
 use borrow.Author.Needs.{needs}

@@ -1,3 +1,4 @@
+-- `bucket::picks::prefers` meets its contract.
 use Rattle.bucket.specs.Quests.{prefers}
 use borrow.Author.Needs.{needs}
 use Rattle.bucket.proofs.picks.prefers.Statement.{statement}

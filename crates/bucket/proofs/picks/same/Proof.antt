@@ -1,3 +1,4 @@
+-- `bucket::picks::same` meets its contract.
 use borrow.Author.Tests.{eq-eqb, ne-eqb}
 use Rattle.scan.specs.Scan.{same}
 use borrow.Author.Needs.{needs}

@@ -1,3 +1,4 @@
+-- `bucket::picks::takes` meets its contract: the entry against the best so far: one stamped after the quest's stamp is passed by.
 use borrow.Author.Tests.{le-leb, lt-leb}
 use Rattle.bucket.specs.Quests.{takes}
 use borrow.Author.Needs.{needs}

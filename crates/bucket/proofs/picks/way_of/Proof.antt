@@ -1,3 +1,4 @@
+-- `bucket::picks::way_of` meets its contract: what a bucket's scan says of the way.
 use mathlib.Core.Bool.{Bool, true, false}
 use mathlib.Core.Path.{_≡_, refl}
 use Rattle.scan.specs.declared.Found.the-variants.{Damage}

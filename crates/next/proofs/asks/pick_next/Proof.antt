@@ -1,3 +1,4 @@
+-- `next::asks::pick_next` meets its contract: the entry before sector `from` against the best so far; only of one that would be the next is a later copy looked for.
 use Rattle.next.proofs.Tests.{pick-next}
 use borrow.Author.Needs.{needs}
 use Rattle.next.proofs.asks.pick_next.Statement.{statement}

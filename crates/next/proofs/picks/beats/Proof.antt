@@ -1,3 +1,4 @@
+-- `next::picks::beats` meets its contract.
 use Rattle.next.specs.Nearer.{beats}
 use borrow.Author.Needs.{needs}
 use Rattle.next.proofs.picks.beats.Statement.{statement}

@@ -1,3 +1,4 @@
+-- `next::picks::is_candidate` meets its contract: whether a post is the next one, if no later copy of its bib follows.
 use borrow.Author.Tests.{eq-eqb, ne-eqb}
 use Rattle.rules.specs.Sector.{isPost}
 use Rattle.next.specs.Nearer.{isCandidate}

@@ -1,3 +1,4 @@
+-- `next::picks::is_copy` meets its contract: whether the entry is a copy of the bib stamped t or earlier.
 use borrow.Author.Tests.{eq-eqb, ne-eqb}
 use Rattle.next.specs.Nearer.{isCopy}
 use borrow.Author.Needs.{needs}

@@ -1,3 +1,4 @@
+-- `next::picks::nearer` meets its contract.
 use borrow.Author.Tests.{le-leb, lt-leb, le-ltb}
 use Rattle.next.specs.Nearer.{nearer}
 use borrow.Author.Needs.{needs}

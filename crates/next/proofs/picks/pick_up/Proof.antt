@@ -1,3 +1,4 @@
+-- `next::picks::pick_up` meets its contract: an index entry stamped t or earlier, against the one with the least key above x so far.
 use borrow.Author.Tests.{eq-eqb, ne-eqb}
 use Rattle.rules.specs.Sector.{isIndex}
 use Rattle.next.proofs.Tests.{pick-up}

@@ -1,4 +1,4 @@
--- `roll::lay` lays the records of a roll down in a row. The roll that is left, puts down in the buffer as it is, gives what the whole roll gives in the buffer that came.
+-- `roll::lay` lays the records of a roll down in a row. The roll that is left, laid down in the buffer as it is, gives what the whole roll gives in the buffer that came.
 use borrow.Author.Needs.{needs}
 use mathlib.Core.Path.{_≡_, ap, _∙_}
 use native.Mathlib.Omega.{arith}

@@ -1,3 +1,4 @@
+-- `walk::head::has_size` meets its contract: the product is computed only for a head within the limits: it cannot wrap.
 use native.Mathlib.Omega.{arith}
 use Rattle.rules.specs.Layout.{sizeOf}
 use Rattle.walk.proofs.Sizes.{size-fits}

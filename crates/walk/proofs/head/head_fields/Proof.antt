@@ -1,3 +1,4 @@
+-- `walk::head::head_fields` meets its contract.
 use Rattle.rules.specs.Layout.{headFields}
 use borrow.Author.Needs.{needs}
 use Rattle.walk.proofs.head.head_fields.Statement.{statement}

@@ -1,3 +1,4 @@
+-- `walk::head::head_in` meets its contract.
 use Rattle.rules.specs.Layout.{headIn}
 use Rattle.walk.specs.Heads.{layoutOf}
 use borrow.Author.Needs.{needs}

@@ -1,3 +1,4 @@
+-- `walk::head::in_limits` meets its contract.
 use Rattle.rules.specs.Layout.{limits}
 use borrow.Author.Needs.{needs}
 use Rattle.walk.proofs.head.in_limits.Statement.{statement}

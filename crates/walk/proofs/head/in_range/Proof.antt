@@ -1,3 +1,4 @@
+-- `walk::head::in_range` meets its contract.
 use borrow.Author.Tests.{le-leb, lt-leb}
 use Rattle.rules.specs.Plain.{within}
 use borrow.Author.Needs.{needs}

@@ -1,3 +1,4 @@
+-- `walk::head::keeps_layout` meets its contract.
 use borrow.Author.Tests.{eq-eqb, ne-eqb}
 use borrow.Author.Needs.{needs}
 use Rattle.walk.proofs.head.keeps_layout.Statement.{statement}

@@ -1,3 +1,4 @@
+-- `walk::head::read_head` meets its contract: the geometry that sector 0 gives the card, or that it or the length breaks the layout.
 use native.Mathlib.Omega.{arith}
 use lib.ListN.{length-take, length-drop}
 use Rattle.rules.specs.Layout.{headOf}

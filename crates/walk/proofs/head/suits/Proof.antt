@@ -1,3 +1,4 @@
+-- `walk::head::suits` meets its contract: whether a card of this length can have the geometry.
 use mathlib.Core.Path.{sym, _∙_}
 use Rattle.laws.proofs.Heads.{limits-hold}
 use borrow.Author.Needs.{needs}
