@@ -9,12 +9,6 @@ use borrow.Author.Needs.{needs}
 use Rattle.bucket.proofs.bucket_part.Statement.{statement}
 use Rattle.bucket.proofs.bucket_part.Tie as tie
 
-add-a : tie.Need-add-a
-add-a c = search needs
-
-sub-a : tie.Need-sub-a
-sub-a c = search needs
-
 mul-a : tie.Need-mul-a
 mul-a c =
     let e = c .before .before in
@@ -30,19 +24,10 @@ mul-a-2 c =
     let e = c .before .before in
     let h = room _ _ _ (e .pre .0) (e .pre .1 .0) (e .pre .1 .1) in omega arith
 
-mul-e : tie.Need-mul-e
-mul-e c = search needs
-
 add-e : tie.Need-add-e
 add-e c =
     let e = c .before .before .before in
     let h = room _ _ _ (e .pre .0) (e .pre .1 .0) (e .pre .1 .1) in omega arith
-
-sub-result : tie.Need-sub-result
-sub-result c = search needs
-
-part-result-start : tie.Need-part-result-start
-part-result-start c = search needs
 
 part-result-end : tie.Need-part-result-end
 part-result-end c =
@@ -58,15 +43,5 @@ returns c =
 pub bucket-part-spec : {M : Type 1} → statement M
 bucket-part-spec =
     tie.close
-    (tie.spec
-    add-a
-    sub-a
-    mul-a
-    add-a-2
-    mul-a-2
-    mul-e
-    add-e
-    sub-result
-    part-result-start
-    part-result-end
-    returns)
+    (tie.spec (λ c. search needs) (λ c. search needs) mul-a add-a-2 mul-a-2 (λ c. search needs) add-e
+    (λ c. search needs) (λ c. search needs) part-result-end returns)

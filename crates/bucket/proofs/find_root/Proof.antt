@@ -6,15 +6,6 @@ use borrow.Author.Needs.{needs}
 use Rattle.bucket.proofs.find_root.Statement.{statement}
 use Rattle.bucket.proofs.find_root.Tie as tie
 
-log-part-requires : tie.Need-log-part-requires
-log-part-requires c κs = search needs
-
-log-quest-requires : tie.Need-log-quest-requires
-log-quest-requires c κs = search needs
-
-scan-from-requires : tie.Need-scan-from-requires
-scan-from-requires c κs = search needs
-
 returns : tie.Need-returns
 returns c =
     let e = c .before .before .before .before in
@@ -24,4 +15,4 @@ returns c =
 
 pub find-root-spec : {M : Type 1} → statement M
 find-root-spec =
-    tie.close (tie.spec log-part-requires log-quest-requires scan-from-requires returns)
+    tie.close (tie.spec (λ c κs. search needs) (λ c κs. search needs) (λ c κs. search needs) returns)

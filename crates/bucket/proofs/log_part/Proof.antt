@@ -8,18 +8,6 @@ use borrow.Author.Needs.{needs}
 use Rattle.bucket.proofs.log_part.Statement.{statement}
 use Rattle.bucket.proofs.log_part.Tie as tie
 
-mul-e : tie.Need-mul-e
-mul-e c = search needs
-
-add-e : tie.Need-add-e
-add-e c = search needs
-
-sub-result : tie.Need-sub-result
-sub-result c = search needs
-
-part-result-start : tie.Need-part-result-start
-part-result-start c = search needs
-
 part-result-end : tie.Need-part-result-end
 part-result-end c = let h = log-room _ _ (c .before .pre) in omega arith
 
@@ -31,4 +19,4 @@ returns c =
 
 pub log-part-spec : {M : Type 1} → statement M
 log-part-spec =
-    tie.close (tie.spec mul-e add-e sub-result part-result-start part-result-end returns)
+    tie.close (tie.spec (λ c. search needs) (λ c. search needs) (λ c. search needs) (λ c. search needs) part-result-end returns)

@@ -6,12 +6,6 @@ use borrow.Author.Needs.{needs}
 use Rattle.bucket.proofs.search.Statement.{statement}
 use Rattle.bucket.proofs.search.Tie as tie
 
-bucket-part-requires : tie.Need-bucket-part-requires
-bucket-part-requires c κs = search needs
-
-search-part-requires : tie.Need-search-part-requires
-search-part-requires c κs = search needs
-
 returns : tie.Need-returns
 returns c =
     let e = c .before .before .before in
@@ -21,4 +15,4 @@ returns c =
     (search-part (a .head) (now (a .card)) (a .key) (a .stamp) (a .b) (a .header) (e .pre .1 .0) fits)
 
 pub search-spec : {M : Type 1} → statement M
-search-spec = tie.close (tie.spec bucket-part-requires search-part-requires returns)
+search-spec = tie.close (tie.spec (λ c κs. search needs) (λ c κs. search needs) returns)

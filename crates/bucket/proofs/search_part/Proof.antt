@@ -16,20 +16,8 @@ use borrow.Author.Needs.{needs}
 use Rattle.bucket.proofs.search_part.Statement.{statement}
 use Rattle.bucket.proofs.search_part.Tie as tie
 
-sub-decode : tie.Need-sub-decode
-sub-decode c = search needs
-
-part-decode-start : tie.Need-part-decode-start
-part-decode-start c = search needs
-
-part-decode-end : tie.Need-part-decode-end
-part-decode-end c = search needs
-
 decode-requires : tie.Need-decode-requires
 decode-requires c κs = simp (length-take, length-drop) (omega arith)
-
-enum-known-first : tie.Need-enum-known-first
-enum-known-first c = search needs
 
 returns : tie.Need-returns
 returns c =
@@ -41,21 +29,6 @@ returns-2 c =
     let held = c .before .before .before in
     let e = held .before .before .before .before .before in
     first-other _ _ _ (e .args .n) (e .args .m) (now (e .args .part)) _ (e .pre .1 .0) (held .before .before .decode .ensures) _ (held .first .given .1) (c .if1 .taken)
-
-bucket-quest-requires : tie.Need-bucket-quest-requires
-bucket-quest-requires c κs = search needs
-
-fits-requires : tie.Need-fits-requires
-fits-requires c κs = search needs
-
-takes-requires : tie.Need-takes-requires
-takes-requires c κs = search needs
-
-scan-from-requires : tie.Need-scan-from-requires
-scan-from-requires c κs = search needs
-
-way-of-requires : tie.Need-way-of-requires
-way-of-requires c κs = search needs
 
 -- what the header says of the whole search
 told-at : (q : tie.After-fits2) →
@@ -82,18 +55,6 @@ returns-4 c = rw (c .if2 .left) at (told-at (c .before))
 pub search-part-spec : {M : Type 1} → statement M
 search-part-spec =
     tie.close
-    (tie.spec
-    sub-decode
-    part-decode-start
-    part-decode-end
-    decode-requires
-    enum-known-first
-    returns
-    returns-2
-    bucket-quest-requires
-    fits-requires
-    takes-requires
-    scan-from-requires
-    way-of-requires
-    returns-3
-    returns-4)
+    (tie.spec (λ c. search needs) (λ c. search needs) (λ c. search needs) decode-requires (λ c. search needs) returns
+    returns-2 (λ c κs. search needs) (λ c κs. search needs) (λ c κs. search needs) (λ c κs. search needs)
+    (λ c κs. search needs) returns-3 returns-4)

@@ -21,12 +21,6 @@ abbrev μ-loop : tie.MeasureT-loop
 loop-holds : tie.Need-loop-holds Inv-loop μ-loop
 loop-holds c = let o = c .before .before in (search needs, search needs, search needs, o .pre .0 .2, o .pre .0 .1, refl)
 
-mul-b : tie.Need-mul-b Inv-loop μ-loop
-mul-b c = search needs
-
-shared-slice-read-b : tie.Need-shared-slice-read-b Inv-loop μ-loop
-shared-slice-read-b c = search needs
-
 used-in-requires : tie.Need-used-in-requires Inv-loop μ-loop
 used-in-requires c κs =
     let turn = c .before .before in
@@ -34,12 +28,6 @@ used-in-requires c κs =
     let a = o .args in
     let l = turn .loop in
     (o .pre .0 .0, read-at (a .head) (a .card .now) (a .path .now) (l .i) (search needs) (l .inv .4) .0)
-
-sent-count-requires : tie.Need-sent-count-requires Inv-loop μ-loop
-sent-count-requires c κs = search needs
-
-add-if1 : tie.Need-add-if1 Inv-loop μ-loop
-add-if1 c = search needs
 
 returns : tie.Need-returns Inv-loop μ-loop
 unfolding needsOf freshOver isOpen
@@ -63,12 +51,6 @@ renewal-requires c κs =
       (o .pre .0 .0, read-at (a .head) (a .card .now) (a .path .now) (l .i) (search needs) (l .inv .4) .0, at-used-in .used-in .ensures .0),
       (l .inv .3, omega (arith, l .inv .1, l .inv .2, o .pre .1)),
     )
-
-add-i : tie.Need-add-i Inv-loop μ-loop
-add-i c = search needs
-
-loop-less : tie.Need-loop-less Inv-loop μ-loop
-loop-less c = search needs
 
 loop-again : tie.Need-loop-again Inv-loop μ-loop
 loop-again c =
@@ -106,19 +88,6 @@ returns-2 c =
 pub count-spec : {M : Type 1} → statement M
 count-spec =
     tie.close
-    (tie.spec
-    Inv-loop
-    μ-loop
-    loop-holds
-    mul-b
-    shared-slice-read-b
-    used-in-requires
-    sent-count-requires
-    add-if1
-    returns
-    renewal-requires
-    add-i
-    loop-less
-    loop-again
-    over-requires
+    (tie.spec Inv-loop μ-loop loop-holds (λ c. search needs) (λ c. search needs) used-in-requires (λ c κs. search needs)
+    (λ c. search needs) returns renewal-requires (λ c. search needs) (λ c. search needs) loop-again over-requires
     returns-2)

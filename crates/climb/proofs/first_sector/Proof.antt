@@ -7,12 +7,6 @@ use Rattle.rules.specs.Layout.{base}
 use Rattle.climb.proofs.first_sector.Statement.{statement}
 use Rattle.climb.proofs.first_sector.Tie as tie
 
-add-result : tie.Need-add-result
-add-result c = search needs
-
-sub-result : tie.Need-sub-result
-sub-result c = search needs
-
 mul-result : tie.Need-mul-result
 mul-result c = let k = bucket-low (c .before .before .args .head .m) (c .before .before .args .head .n) (c .before .before .args .b) (search needs) (search needs) (search needs) in omega arith
 
@@ -24,4 +18,4 @@ unfolding base
 returns c = refl
 
 pub first-sector-spec : {M : Type 1} → statement M
-first-sector-spec = tie.close (tie.spec add-result sub-result mul-result add-result-2 returns)
+first-sector-spec = tie.close (tie.spec (λ c. search needs) (λ c. search needs) mul-result add-result-2 returns)

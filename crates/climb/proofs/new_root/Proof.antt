@@ -69,9 +69,6 @@ write-log-requires-2 c κs =
     let o = c .before .before .before .before in
     (o .pre .0 .0 .shape, o .pre .0 .0 .logs)
 
-same-length : tie.Need-same-length
-same-length c = search needs
-
 returns : tie.Need-returns
 returns c =
     let at-write-log = c .before .before in
@@ -89,9 +86,6 @@ returns c =
     ∙ sym (into-puts (a .head) (a .card .now) (a .fresh) [] (sentList (a .p)) (rd .free (a .fresh) (omega arith) (omega arith)) (omega (arith, rd .shape .lim .m4))) in
     rw (root-two (a .head) (a .stamp) (a .p) (a .fresh) (a .card .now) t, ← card1) (at-write-log .write-log .ensures)
 
-same-length-2 : tie.Need-same-length-2
-same-length-2 c = search needs
-
 returns-2 : tie.Need-returns-2
 returns-2 c =
     let at-write-log2 = c .before .before in
@@ -103,13 +97,5 @@ returns-2 c =
 pub new-root-spec : {M : Type 1} → statement M
 new-root-spec =
     tie.close
-    (tie.spec
-    first-sector-requires
-    write-sent-requires
-    cast-write-log
-    write-log-requires
-    write-log-requires-2
-    same-length
-    returns
-    same-length-2
-    returns-2)
+    (tie.spec first-sector-requires write-sent-requires cast-write-log write-log-requires write-log-requires-2
+    (λ c. search needs) returns (λ c. search needs) returns-2)

@@ -6,12 +6,6 @@ use Rattle.climb.proofs.Reading.{reads}
 use Rattle.climb.proofs.rewrite.Statement.{statement}
 use Rattle.climb.proofs.rewrite.Tie as tie
 
-kept-in-requires : tie.Need-kept-in-requires
-kept-in-requires c κs = search needs
-
-limit-in-requires : tie.Need-limit-in-requires
-limit-in-requires c κs = search needs
-
 write-own-requires : tie.Need-write-own-requires
 write-own-requires c κs =
     let at-kept-in = c .before .before .before in
@@ -23,12 +17,6 @@ write-own-requires c κs =
       (o .pre .0 .0, rw (lm .0, k .0 .all) (o .pre .1)),
       (record { count = k .0 .count; long = k .0 .long; most = k .0 .most; all = refl; small = k .0 .small }, omega (arith, k .1, o .pre .0 .2, rd .room), lm .2),
     )
-
-sent-up-requires : tie.Need-sent-up-requires
-sent-up-requires c κs = search needs
-
-same-length : tie.Need-same-length
-same-length c = search needs
 
 returns : tie.Need-returns
 returns c =
@@ -42,10 +30,5 @@ returns c =
 pub rewrite-spec : {M : Type 1} → statement M
 rewrite-spec =
     tie.close
-    (tie.spec
-    kept-in-requires
-    limit-in-requires
-    write-own-requires
-    sent-up-requires
-    same-length
-    returns)
+    (tie.spec (λ c κs. search needs) (λ c κs. search needs) write-own-requires (λ c κs. search needs)
+    (λ c. search needs) returns)

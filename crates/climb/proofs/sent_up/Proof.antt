@@ -9,15 +9,6 @@ use Rattle.climb.proofs.Counting.{pairs-small}
 use Rattle.climb.proofs.sent_up.Statement.{statement}
 use Rattle.climb.proofs.sent_up.Tie as tie
 
-pairs-requires : tie.Need-pairs-requires
-pairs-requires c κs = search needs
-
-fresh-needed-requires : tie.Need-fresh-needed-requires
-fresh-needed-requires c κs = search needs
-
-add-next : tie.Need-add-next
-add-next c = search needs
-
 returns : tie.Need-returns
 returns c =
     let o = c .before .before in
@@ -31,4 +22,4 @@ returns c =
     }
 
 pub sent-up-spec : {M : Type 1} → statement M
-sent-up-spec = tie.close (tie.spec pairs-requires fresh-needed-requires add-next returns)
+sent-up-spec = tie.close (tie.spec (λ c κs. search needs) (λ c κs. search needs) (λ c. search needs) returns)

@@ -14,9 +14,6 @@ use Rattle.climb.proofs.used_in.Tie as tie
 bucket-part-requires : tie.Need-bucket-part-requires
 bucket-part-requires c κs = let o = c .before in let rd = reads (o .args .head) (o .args .card .now) (o .args .b) (o .pre .0) (o .pre .1) in (o .pre .0, (rd .one, rd .most))
 
-used-requires : tie.Need-used-requires
-used-requires c κs = search needs
-
 returns : tie.Need-returns
 returns c =
     let o = c .before .before .before in
@@ -26,4 +23,4 @@ returns c =
     (e, omega arith, omega (arith, c .used .ensures .0))
 
 pub used-in-spec : {M : Type 1} → statement M
-used-in-spec = tie.close (tie.spec bucket-part-requires used-requires returns)
+used-in-spec = tie.close (tie.spec bucket-part-requires (λ c κs. search needs) returns)

@@ -34,9 +34,6 @@ write-sent-requires c κs =
     let fits = bucket-fits (o .args .head) (o .args .card .now) (o .args .b) (o .pre .0 .0 .long) (rd .one) (rd .most) in
     (omega (arith, c .before .first-sector .ensures, o .pre .1), o .pre .0 .3)
 
-same-length : tie.Need-same-length
-same-length c = search needs
-
 returns : tie.Need-returns
 returns c =
     let at-write-sent = c .before .before in
@@ -52,4 +49,4 @@ returns c =
 pub write-in-spec : {M : Type 1} → statement M
 write-in-spec =
     tie.close
-    (tie.spec first-sector-requires add-write-sent write-sent-requires same-length returns)
+    (tie.spec first-sector-requires add-write-sent write-sent-requires (λ c. search needs) returns)

@@ -14,23 +14,11 @@ use Rattle.climb.proofs.Laying.{fill-up, log-reads}
 use Rattle.climb.proofs.write_log.Statement.{statement}
 use Rattle.climb.proofs.write_log.Tie as tie
 
-log-part-requires : tie.Need-log-part-requires
-log-part-requires c κs = search needs
-
-used-requires : tie.Need-used-requires
-used-requires c κs = search needs
-
-add-write-entry : tie.Need-add-write-entry
-add-write-entry c = search needs
-
 write-entry-requires : tie.Need-write-entry-requires
 write-entry-requires c κs =
     let o = c .before .before .before .before .before .before in
     let fits = log-fits (o .args .head) (o .args .card .now) (o .pre .0 .long) in
     (omega (arith, c .before .if1 .taken), omega arith)
-
-same-length : tie.Need-same-length
-same-length c = search needs
 
 returns : tie.Need-returns
 returns c =
@@ -45,9 +33,6 @@ returns c =
     let is : at-used .used .result ≡ lg .count = at-used .used .ensures .1 ∙ ap (λ (p : List ℕ). usedOf 0 p 0 (a .head .n)) (at-log-part .log-part .ensures .0) ∙ lg .used in
     at-write-entry .write-entry .ensures ∙ ap (λ (k : ℕ). put (a .card .now) (1 + k) (encode e)) is
     ∙ sym (ap (λ (l : List ℕ). fill (a .card .now) l (e ∷ [])) (lg .blank) ∙ fill-up (a .card .now) (1 + lg .count) (a .head .n - lg .count) (e ∷ []) (omega (arith, at-if1 .if1 .taken)))
-
-same-length-2 : tie.Need-same-length-2
-same-length-2 c = search needs
 
 returns-2 : tie.Need-returns-2
 unfolding fill
@@ -64,12 +49,5 @@ returns-2 c =
 pub write-log-spec : {M : Type 1} → statement M
 write-log-spec =
     tie.close
-    (tie.spec
-    log-part-requires
-    used-requires
-    add-write-entry
-    write-entry-requires
-    same-length
-    returns
-    same-length-2
-    returns-2)
+    (tie.spec (λ c κs. search needs) (λ c κs. search needs) (λ c. search needs) write-entry-requires (λ c. search needs)
+    returns (λ c. search needs) returns-2)

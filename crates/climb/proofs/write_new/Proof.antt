@@ -24,9 +24,6 @@ write-run-requires c κs =
     let e = c .before .first-sector .ensures in
     (o .pre .1 .0, o .pre .1 .1, omega (arith, o .pre .1 .2), o .pre .1 .4)
 
-same-length : tie.Need-same-length
-same-length c = search needs
-
 returns : tie.Need-returns
 returns c =
     let at-write-run = c .before .before in
@@ -42,4 +39,4 @@ returns c =
     ∙ sym (into-puts (a .head) card (a .b) [] new (o .pre .0 .3) (omega (arith, o .pre .1)))
 
 pub write-new-spec : {M : Type 1} → statement M
-write-new-spec = tie.close (tie.spec first-sector-requires write-run-requires same-length returns)
+write-new-spec = tie.close (tie.spec first-sector-requires write-run-requires (λ c. search needs) returns)

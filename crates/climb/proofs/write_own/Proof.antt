@@ -28,9 +28,6 @@ write-new-requires c κs =
       (omega arith, hs .most, omega (arith, c .before .if1 .taken, o .pre .1), hs .long, hs .small),
     )
 
-halved-requires : tie.Need-halved-requires
-halved-requires c κs = search needs
-
 write-new-requires-2 : tie.Need-write-new-requires-2
 write-new-requires-2 c κs =
     let o = c .before .before .before .before in
@@ -53,9 +50,6 @@ write-new-requires-2 c κs =
         subst AllSmall (sym low) (take-small (length es - length es / 2) es (hs .small)),
       ),
     )
-
-add-write-new : tie.Need-add-write-new
-add-write-new c = search needs
 
 write-new-requires-3 : tie.Need-write-new-requires-3
 write-new-requires-3 c κs =
@@ -81,9 +75,6 @@ write-new-requires-3 c κs =
       ),
     )
 
-same-length : tie.Need-same-length
-same-length c = search needs
-
 returns : tie.Need-returns
 unfolding ownCard
 returns c =
@@ -93,9 +84,6 @@ returns c =
     let hs = o .pre .1 .0 in
     let t = lt-ltb (length (held (o .args .h))) (o .args .limit) (omega (arith, hs .count, at-if1 .if1 .taken)) in
     rw t (at-write-new .write-new .ensures)
-
-same-length-2 : tie.Need-same-length-2
-same-length-2 c = search needs
 
 returns-2 : tie.Need-returns-2
 unfolding ownCard
@@ -117,13 +105,5 @@ returns-2 c =
 pub write-own-spec : {M : Type 1} → statement M
 write-own-spec =
     tie.close
-    (tie.spec
-    write-new-requires
-    halved-requires
-    write-new-requires-2
-    add-write-new
-    write-new-requires-3
-    same-length
-    returns
-    same-length-2
-    returns-2)
+    (tie.spec write-new-requires (λ c κs. search needs) write-new-requires-2 (λ c. search needs) write-new-requires-3
+    (λ c. search needs) returns (λ c. search needs) returns-2)

@@ -7,15 +7,6 @@ use Rattle.rules.specs.Write.{planAnswer, planCard}
 use Rattle.format.proofs.format.Statement.{statement}
 use Rattle.format.proofs.format.Tie as tie
 
-meant-requires : tie.Need-meant-requires
-meant-requires c κs = search needs
-
-format-for-requires : tie.Need-format-for-requires
-format-for-requires c κs = search needs
-
-same-length : tie.Need-same-length
-same-length c = search needs
-
 returns : tie.Need-returns
 unfolding format
 returns c =
@@ -28,4 +19,4 @@ returns c =
     (l .0 ∙ ap (λ (h : Head). planAnswer (formatFor (a .card .now) h)) m, l .1 ∙ ap (λ (h : Head). planCard (a .card .now) (formatFor (a .card .now) h)) m)
 
 pub format-spec : {M : Type 1} → statement M
-format-spec = tie.close (tie.spec meant-requires format-for-requires same-length returns)
+format-spec = tie.close (tie.spec (λ c κs. search needs) (λ c κs. search needs) (λ c. search needs) returns)

@@ -8,12 +8,6 @@ use Rattle.laws.proofs.Follows.{refuses, accepts}
 use Rattle.format.proofs.format_for.Statement.{statement}
 use Rattle.format.proofs.format_for.Tie as tie
 
-suits-requires : tie.Need-suits-requires
-suits-requires c κs = search needs
-
-all-zero-requires : tie.Need-all-zero-requires
-all-zero-requires c κs = search needs
-
 lay-out-requires : tie.Need-lay-out-requires
 lay-out-requires c κs =
     let at-all-zero = c .before .before in
@@ -22,12 +16,6 @@ lay-out-requires c κs =
     let o = at-suits .before .before in
     let s = suited (o .args .card .now) (o .args .head) (sym (at-suits .suits .ensures) ∙ at-if1 .if1 .taken) in
     (s .0, s .1, sym (at-all-zero .all-zero .ensures) ∙ c .before .if2 .taken)
-
-refusal-requires : tie.Need-refusal-requires
-refusal-requires c κs = search needs
-
-same-length : tie.Need-same-length
-same-length c = search needs
 
 returns : tie.Need-returns
 returns c =
@@ -41,12 +29,6 @@ returns c =
     let f = accepts (formatFor (a .card .now) (a .head)) (a .card .now) _ _ (laid-out (a .card .now) (a .head) (sym (at-suits .suits .ensures) ∙ at-if1 .if1 .taken) (sym (at-all-zero .all-zero .ensures) ∙ at-if2 .if2 .taken) ∙ ap accept (sym (at-lay-out .lay-out .ensures))) (c .refusal .ensures) in
     (f .answer, f .bytes)
 
-refusal-requires-2 : tie.Need-refusal-requires-2
-refusal-requires-2 c κs = search needs
-
-same-length-2 : tie.Need-same-length-2
-same-length-2 c = search needs
-
 returns-2 : tie.Need-returns-2
 returns-2 c =
     let at-all-zero = c .before .before in
@@ -56,9 +38,6 @@ returns-2 c =
     let a = o .args in
     let f = refuses (formatFor (a .card .now) (a .head)) (a .card .now) _ 9 (not-blank (a .card .now) (a .head) (sym (at-suits .suits .ensures) ∙ at-if1 .if1 .taken) (sym (at-all-zero .all-zero .ensures) ∙ c .before .if2 .left)) (c .refusal2 .ensures) in
     (f .answer, f .bytes)
-
-refusal-requires-3 : tie.Need-refusal-requires-3
-refusal-requires-3 c κs = search needs
 
 returns-3 : tie.Need-returns-3
 returns-3 c =
@@ -71,15 +50,5 @@ returns-3 c =
 pub format-for-spec : {M : Type 1} → statement M
 format-for-spec =
     tie.close
-    (tie.spec
-    suits-requires
-    all-zero-requires
-    lay-out-requires
-    refusal-requires
-    same-length
-    returns
-    refusal-requires-2
-    same-length-2
-    returns-2
-    refusal-requires-3
-    returns-3)
+    (tie.spec (λ c κs. search needs) (λ c κs. search needs) lay-out-requires (λ c κs. search needs) (λ c. search needs)
+    returns (λ c κs. search needs) (λ c. search needs) returns-2 (λ c κs. search needs) returns-3)

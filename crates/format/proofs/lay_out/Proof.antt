@@ -59,9 +59,6 @@ write-entry-requires-3 c κs =
     let w = ap length (at-write-entry2 .write-entry2 .ensures ∙ ap (λ (x : List ℕ). put x (1 + a .head .n) (encode (indexEntry 0 0 2))) (at-write-entry .write-entry .ensures ∙ ap (λ (x : List ℕ). put x 1 (encode (rootEntry 0 1))) (at-write-head .write-head .ensures))) ∙ long-indexed (a .head) (a .card .now) (o .pre .0) (o .pre .1) (o .pre .2) in
     (omega (arith, l .m4), omega arith)
 
-same-length : tie.Need-same-length
-same-length c = search needs
-
 returns : tie.Need-returns
 returns c =
     let at-write-entry3 = c .before .before in
@@ -79,12 +76,5 @@ returns c =
 pub lay-out-spec : {M : Type 1} → statement M
 lay-out-spec =
     tie.close
-    (tie.spec
-    add-first
-    add-second
-    write-head-requires
-    write-entry-requires
-    write-entry-requires-2
-    write-entry-requires-3
-    same-length
-    returns)
+    (tie.spec add-first add-second write-head-requires write-entry-requires write-entry-requires-2
+    write-entry-requires-3 (λ c. search needs) returns)

@@ -10,12 +10,6 @@ use Rattle.level.proofs.key_at.Tie as tie
 hand-long : (c : tie.Start) → length (c .args .t1 .entries) ≡ 34
 hand-long c = sym (length-map (c .args .t1 .entries) _) ∙ c .good .0 .1 .1 .0 .1 .0 .1
 
-mul-x : tie.Need-mul-x
-mul-x c = search needs
-
-element-copy-out-x : tie.Need-element-copy-out-x
-element-copy-out-x c = search needs
-
 returns : tie.Need-returns
 returns c = let o = c .before .before in key-in (o .args .t1 .entries) (record { kind = 0; key = 0; stamp = 0; value = 0 }) (o .args .t1 .count) (o .args .i) (search needs) (omega (arith, hand-long o))
 
@@ -23,4 +17,4 @@ returns-2 : tie.Need-returns-2
 returns-2 c = let o = c .before in key-out (o .args .t1 .entries) (o .args .t1 .count) (o .args .i) (search needs) (omega (arith, hand-long o))
 
 pub key-at-spec : {M : Type 1} → statement M
-key-at-spec = tie.close (tie.spec mul-x element-copy-out-x returns returns-2)
+key-at-spec = tie.close (tie.spec (λ c. search needs) (λ c. search needs) returns returns-2)

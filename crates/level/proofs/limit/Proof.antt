@@ -4,9 +4,6 @@ use Rattle.level.proofs.Turns.{limit-index, limit-data}
 use Rattle.level.proofs.limit.Statement.{statement}
 use Rattle.level.proofs.limit.Tie as tie
 
-shared-slice-read-if1 : tie.Need-shared-slice-read-if1
-shared-slice-read-if1 c = search needs
-
 returns : tie.Need-returns
 returns c = let o = c .before .before in limit-index (o .args .head) (o .args .part .now) (o .args .used) (o .pre .1) (c .if1 .taken)
 
@@ -14,4 +11,4 @@ returns-2 : tie.Need-returns-2
 returns-2 c = let o = c .before .before in limit-data (o .args .head) (o .args .part .now) (o .args .used) (o .pre .1) (c .if1 .left)
 
 pub limit-spec : {M : Type 1} → statement M
-limit-spec = tie.close (tie.spec shared-slice-read-if1 returns returns-2)
+limit-spec = tie.close (tie.spec (λ c. search needs) returns returns-2)

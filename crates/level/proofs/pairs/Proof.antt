@@ -9,22 +9,10 @@ use Rattle.hand.specs.Hand.{held}
 use Rattle.level.proofs.pairs.Statement.{statement}
 use Rattle.level.proofs.pairs.Tie as tie
 
-pair-at-requires : tie.Need-pair-at-requires
-pair-at-requires c κs = search needs
-
 returns : tie.Need-returns
 returns c =
     let o = c .before .before in
     one-pair (o .args .stamp) (o .args .limit) (o .args .fresh) (held (o .args .h)) _ (omega (arith, o .pre)) (c .before .pair-at .ensures)
-
-halved-requires : tie.Need-halved-requires
-halved-requires c κs = search needs
-
-add-pair-at : tie.Need-add-pair-at
-add-pair-at c = search needs
-
-pair-at-requires-2 : tie.Need-pair-at-requires-2
-pair-at-requires-2 c κs = search needs
 
 returns-2 : tie.Need-returns-2
 returns-2 c =
@@ -39,4 +27,4 @@ returns-2 c =
 pub pairs-spec : {M : Type 1} → statement M
 pairs-spec =
     tie.close
-    (tie.spec pair-at-requires returns halved-requires add-pair-at pair-at-requires-2 returns-2)
+    (tie.spec (λ c κs. search needs) returns (λ c κs. search needs) (λ c. search needs) (λ c κs. search needs) returns-2)

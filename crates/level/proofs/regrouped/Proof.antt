@@ -13,21 +13,6 @@ use Rattle.hand.proofs.Kept.{thinned-kept}
 use Rattle.level.proofs.regrouped.Statement.{statement}
 use Rattle.level.proofs.regrouped.Tie as tie
 
-gathered-requires : tie.Need-gathered-requires
-gathered-requires c κs = search needs
-
-key-at-requires : tie.Need-key-at-requires
-key-at-requires c κs = search needs
-
-with-sent-requires : tie.Need-with-sent-requires
-with-sent-requires c κs = search needs
-
-in-order-requires : tie.Need-in-order-requires
-in-order-requires c κs = search needs
-
-thinned-requires : tie.Need-thinned-requires
-thinned-requires c κs = search needs
-
 returns : tie.Need-returns
 returns c =
     let at-with-sent = c .before .before in
@@ -46,10 +31,5 @@ returns c =
 pub regrouped-spec : {M : Type 1} → statement M
 regrouped-spec =
     tie.close
-    (tie.spec
-    gathered-requires
-    key-at-requires
-    with-sent-requires
-    in-order-requires
-    thinned-requires
-    returns)
+    (tie.spec (λ c κs. search needs) (λ c κs. search needs) (λ c κs. search needs) (λ c κs. search needs)
+    (λ c κs. search needs) returns)

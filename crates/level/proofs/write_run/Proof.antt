@@ -23,27 +23,12 @@ hand-long c = sym (length-map (c .args .t3 .entries) _) ∙ c .good .1 .1 .0 .1 
 loop-holds : tie.Need-loop-holds Inv-loop μ-loop
 loop-holds c = (search needs, search needs, search needs, c .before .pre .3, refl)
 
-mul-e : tie.Need-mul-e Inv-loop μ-loop
-mul-e c = search needs
-
-element-copy-out-e : tie.Need-element-copy-out-e Inv-loop μ-loop
-element-copy-out-e c = search needs
-
 write-entry-requires : tie.Need-write-entry-requires Inv-loop μ-loop
 write-entry-requires c κs =
     let turn = c .before .before .before in
     let o = turn .before .before in
     let l = turn .loop in
     (search needs, small-turn (o .args .t3 .entries) _ (o .args .to) (l .j) (l .inv .3) (search needs) (omega (arith, hand-long o)) .0)
-
-add-i : tie.Need-add-i Inv-loop μ-loop
-add-i c = search needs
-
-add-j : tie.Need-add-j Inv-loop μ-loop
-add-j c = search needs
-
-loop-less : tie.Need-loop-less Inv-loop μ-loop
-loop-less c = search needs
 
 loop-again : tie.Need-loop-again Inv-loop μ-loop
 loop-again c =
@@ -59,9 +44,6 @@ loop-again c =
       puts-turn (a .t3 .entries) _ (a .to) _ (l .card) _ (l .i) (l .j) (at-write-entry .write-entry .ensures) (l .inv .4) (search needs) (omega (arith, hand-long o)),
     )
 
-same-length : tie.Need-same-length Inv-loop μ-loop
-same-length c = search needs
-
 returns : tie.Need-returns Inv-loop μ-loop
 returns c =
     let a = c .before .before .before .args in
@@ -71,16 +53,5 @@ returns c =
 pub write-run-spec : {M : Type 1} → statement M
 write-run-spec =
     tie.close
-    (tie.spec
-    Inv-loop
-    μ-loop
-    loop-holds
-    mul-e
-    element-copy-out-e
-    write-entry-requires
-    add-i
-    add-j
-    loop-less
-    loop-again
-    same-length
-    returns)
+    (tie.spec Inv-loop μ-loop loop-holds (λ c. search needs) (λ c. search needs) write-entry-requires
+    (λ c. search needs) (λ c. search needs) (λ c. search needs) loop-again (λ c. search needs) returns)

@@ -10,9 +10,6 @@ write-entry-requires c κs =
     let h = rw (c .before .if1 .taken) at (o .pre .0) in
     (omega arith, (rw (c .before .if1 .taken) at (o .pre .1)) .0)
 
-add-write-entry : tie.Need-add-write-entry
-add-write-entry c = search needs
-
 write-entry-requires-2 : tie.Need-write-entry-requires-2
 write-entry-requires-2 c κs =
     let at-if1 = c .before .before .before .before .before in
@@ -26,18 +23,12 @@ write-entry-requires-3 c κs =
     let h = rw (c .before .if1 .left) at (o .pre .0) in
     (omega arith, (rw (c .before .if1 .left) at (o .pre .1)) .0)
 
-same-length : tie.Need-same-length
-same-length c = search needs
-
 returns : tie.Need-returns
 returns c =
     let at-write-entry2 = c .before .before in
     let at-write-entry = at-write-entry2 .before .before .before .before in
     let at-if1 = at-write-entry .before .before in
     rw (at-if1 .if1 .taken, at-write-entry2 .write-entry2 .ensures, at-write-entry .write-entry .ensures)
-
-same-length-2 : tie.Need-same-length-2
-same-length-2 c = search needs
 
 returns-2 : tie.Need-returns-2
 returns-2 c =
@@ -48,12 +39,5 @@ returns-2 c =
 pub write-sent-spec : {M : Type 1} → statement M
 write-sent-spec =
     tie.close
-    (tie.spec
-    write-entry-requires
-    add-write-entry
-    write-entry-requires-2
-    write-entry-requires-3
-    same-length
-    returns
-    same-length-2
-    returns-2)
+    (tie.spec write-entry-requires (λ c. search needs) write-entry-requires-2 write-entry-requires-3 (λ c. search needs)
+    returns (λ c. search needs) returns-2)

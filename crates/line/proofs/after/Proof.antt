@@ -17,20 +17,11 @@ Inv-loop line at name i₀ e₀ i e = (i ≤ length name) × (e ≤ length line)
 abbrev μ-loop : tie.MeasureT-loop
 μ-loop line at name i₀ e₀ i e = length name - i
 
-loop-holds : tie.Need-loop-holds Inv-loop μ-loop
-loop-holds c = search needs
-
 returns : tie.Need-returns Inv-loop μ-loop
 unfolding restAt endOf
 returns c =
     let l = c .before .before in
     (name-cut (now (l .before .args .line)) (now (l .before .args .name)) (l .loop .e) (l .loop .i) _ (l .loop .inv .2) (c .before .loop-test .taken) (c .if1 .taken), search needs)
-
-shared-slice-read-if2 : tie.Need-shared-slice-read-if2 Inv-loop μ-loop
-shared-slice-read-if2 c = search needs
-
-shared-slice-read-if2-2 : tie.Need-shared-slice-read-if2-2 Inv-loop μ-loop
-shared-slice-read-if2-2 c = search needs
 
 returns-2 : tie.Need-returns-2 Inv-loop μ-loop
 unfolding restAt endOf
@@ -39,15 +30,6 @@ returns-2 c =
     let a = l .before .args in
     let here : l .loop .e < length (now (a .line)) = omega (arith, l .loop .inv .1, c .before .before .before .if1 .left) in
     (name-other (now (a .line)) (now (a .name)) (l .loop .e) (l .loop .i) _ (l .loop .inv .2) (c .before .before .before .before .loop-test .taken) here (c .if2 .taken), search needs)
-
-add-i : tie.Need-add-i Inv-loop μ-loop
-add-i c = search needs
-
-add-e : tie.Need-add-e Inv-loop μ-loop
-add-e c = search needs
-
-loop-less : tie.Need-loop-less Inv-loop μ-loop
-loop-less c = search needs
 
 loop-again : tie.Need-loop-again Inv-loop μ-loop
 loop-again c =
@@ -68,16 +50,5 @@ returns-3 c =
 pub after-spec : {M : Type 1} → statement M
 after-spec =
     tie.close
-    (tie.spec
-    Inv-loop
-    μ-loop
-    loop-holds
-    returns
-    shared-slice-read-if2
-    shared-slice-read-if2-2
-    returns-2
-    add-i
-    add-e
-    loop-less
-    loop-again
-    returns-3)
+    (tie.spec Inv-loop μ-loop (λ c. search needs) returns (λ c. search needs) (λ c. search needs) returns-2
+    (λ c. search needs) (λ c. search needs) (λ c. search needs) loop-again returns-3)

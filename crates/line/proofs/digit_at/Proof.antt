@@ -13,9 +13,6 @@ use Rattle.line.proofs.digit_at.Tie as tie
 returns : tie.Need-returns
 returns c = sym (digit-out (now (c .before .args .line)) (c .before .args .at) (omega (arith, c .if1 .taken)))
 
-shared-slice-read-d : tie.Need-shared-slice-read-d
-shared-slice-read-d c = search needs
-
 returns-2 : tie.Need-returns-2
 unfolding isDigit within
 returns-2 c =
@@ -29,4 +26,4 @@ returns-3 c =
     rw (digit-here (now (a .line)) (a .at) (omega (arith, c .before .before .before .pre, c .before .before .if1 .left)), le-leb 48 _ (c .if2 .left))
 
 pub digit-at-spec : {M : Type 1} → statement M
-digit-at-spec = tie.close (tie.spec returns shared-slice-read-d returns-2 returns-3)
+digit-at-spec = tie.close (tie.spec returns (λ c. search needs) returns-2 returns-3)

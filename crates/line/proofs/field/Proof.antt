@@ -8,15 +8,6 @@ use Rattle.line.proofs.Names.{field-missing, field-number}
 use Rattle.line.proofs.field.Statement.{statement}
 use Rattle.line.proofs.field.Tie as tie
 
-after-requires : tie.Need-after-requires
-after-requires c κs = search needs
-
-enum-told : tie.Need-enum-told
-enum-told c = search needs
-
-enum-known-p : tie.Need-enum-known-p
-enum-known-p c = search needs
-
 number-requires : tie.Need-number-requires
 unfolding endOf
 number-requires c κs = omega (arith, c .before .before .before .after .ensures .1, ap endOf (c .before .p .given .1))
@@ -34,4 +25,4 @@ returns-2 c =
 
 pub field-spec : {M : Type 1} → statement M
 field-spec =
-    tie.close (tie.spec after-requires enum-told enum-known-p number-requires returns returns-2)
+    tie.close (tie.spec (λ c κs. search needs) (λ c. search needs) (λ c. search needs) number-requires returns returns-2)

@@ -13,18 +13,6 @@ use Rattle.line.proofs.Requests.{callOf, four-of}
 use Rattle.line.proofs.format_line.Statement.{statement}
 use Rattle.line.proofs.format_line.Tie as tie
 
-slice-aggregate-field : tie.Need-slice-aggregate-field
-slice-aggregate-field c = search needs
-
-field-requires : tie.Need-field-requires
-field-requires c κs = search needs
-
-enum-known-n : tie.Need-enum-known-n
-enum-known-n c = search needs
-
-enum-told : tie.Need-enum-told
-enum-told c = search needs
-
 returns : tie.Need-returns
 unfolding text formatNames requestOf
 returns c =
@@ -33,18 +21,9 @@ returns c =
     let others = text " sectors=" ∷ text " td=" ∷ text " ti=" ∷ [] in
     rw (numbers-none line first others 0 _ (c .before .before .field .ensures .0) (c .enum-told .given .1))
 
-slice-aggregate-field-2 : tie.Need-slice-aggregate-field-2
-slice-aggregate-field-2 c = search needs
-
 field-requires-2 : tie.Need-field-requires-2
 unfolding lastOf
 field-requires-2 c κs = omega (arith, c .before .before .before .before .field .ensures .1, ap lastOf (c .before .before .n .given .1))
-
-enum-known-m : tie.Need-enum-known-m
-enum-known-m c = search needs
-
-enum-told-2 : tie.Need-enum-told-2
-enum-told-2 c = search needs
 
 returns-2 : tie.Need-returns-2
 unfolding text formatNames requestOf
@@ -59,21 +38,9 @@ returns-2 c =
     let one = numbers-more line first others 0 _ (read .field .ensures .0) (n .0 .0) (n .0 .1 .0) (n .1) in
     rw (one, numbers-none line second last (n .0 .1 .0) _ (c .before .before .field2 .ensures .0) (c .enum-told2 .given .1))
 
-slice-aggregate-pair-at : tie.Need-slice-aggregate-pair-at
-slice-aggregate-pair-at c = search needs
-
-slice-aggregate-pair-at-2 : tie.Need-slice-aggregate-pair-at-2
-slice-aggregate-pair-at-2 c = search needs
-
 pair-at-requires : tie.Need-pair-at-requires
 unfolding lastOf
 pair-at-requires c κs = omega (arith, c .before .before .before .before .before .field2 .ensures .1, ap lastOf (c .before .before .before .m .given .1))
-
-enum-known-p : tie.Need-enum-known-p
-enum-known-p c = search needs
-
-enum-told-3 : tie.Need-enum-told-3
-enum-told-3 c = search needs
 
 returns-3 : tie.Need-returns-3
 unfolding text formatNames requestOf callOf
@@ -110,21 +77,6 @@ returns-4 c =
 pub format-line-spec : {M : Type 1} → statement M
 format-line-spec =
     tie.close
-    (tie.spec
-    slice-aggregate-field
-    field-requires
-    enum-known-n
-    enum-told
-    returns
-    slice-aggregate-field-2
-    field-requires-2
-    enum-known-m
-    enum-told-2
-    returns-2
-    slice-aggregate-pair-at
-    slice-aggregate-pair-at-2
-    pair-at-requires
-    enum-known-p
-    enum-told-3
-    returns-3
-    returns-4)
+    (tie.spec (λ c. search needs) (λ c κs. search needs) (λ c. search needs) (λ c. search needs) returns
+    (λ c. search needs) field-requires-2 (λ c. search needs) (λ c. search needs) returns-2 (λ c. search needs)
+    (λ c. search needs) pair-at-requires (λ c. search needs) (λ c. search needs) returns-3 returns-4)

@@ -10,9 +10,6 @@ use Rattle.line.proofs.Digits.{digit-first, number-none, number-run, nu
 use Rattle.line.proofs.number.Statement.{statement}
 use Rattle.line.proofs.number.Tie as tie
 
-digit-at-requires : tie.Need-digit-at-requires
-digit-at-requires c κs = search needs
-
 returns : tie.Need-returns
 unfolding pieceAt lastOf
 returns c =
@@ -24,17 +21,11 @@ shared-slice-read-if2 c =
     let a = c .before .before .before .before .args in
     digit-first (now (a .line)) (a .at) (sym (c .before .before .digit-at .ensures) ∙ not-false _ (c .before .if1 .left)) .0
 
-run-requires : tie.Need-run-requires
-run-requires c κs = search needs
-
 returns-2 : tie.Need-returns-2
 returns-2 c =
     let a = c .before .before .before .before .before .before .args in
     let d = sym (c .before .before .before .before .digit-at .ensures) ∙ not-false _ (c .before .before .before .if1 .left) in
     (c .run .ensures .0 ∙ number-run (now (a .line)) (a .at) d (c .before .if2 .taken), c .run .ensures .1)
-
-add-digit-at : tie.Need-add-digit-at
-add-digit-at c = search needs
 
 digit-at-requires-2 : tie.Need-digit-at-requires-2
 digit-at-requires-2 c κs =
@@ -49,9 +40,6 @@ returns-3 c =
     let d = sym (c .before .before .before .before .before .digit-at .ensures) ∙ not-false _ (c .before .before .before .before .if1 .left) in
     (number-lead (now (a .line)) (a .at) d (c .before .before .if2 .left) (sym (c .before .digit-at2 .ensures) ∙ c .if3 .taken), search needs)
 
-add-t8 : tie.Need-add-t8
-add-t8 c = search needs
-
 returns-4 : tie.Need-returns-4
 unfolding pieceAt lastOf
 returns-4 c =
@@ -63,14 +51,5 @@ returns-4 c =
 pub number-spec : {M : Type 1} → statement M
 number-spec =
     tie.close
-    (tie.spec
-    digit-at-requires
-    returns
-    shared-slice-read-if2
-    run-requires
-    returns-2
-    add-digit-at
-    digit-at-requires-2
-    returns-3
-    add-t8
-    returns-4)
+    (tie.spec (λ c κs. search needs) returns shared-slice-read-if2 (λ c κs. search needs) returns-2 (λ c. search needs)
+    digit-at-requires-2 returns-3 (λ c. search needs) returns-4)

@@ -10,15 +10,6 @@ use Rattle.line.proofs.Fields.{numbers-none, numbers-more, numbers-end,
 use Rattle.line.proofs.pair_at.Statement.{statement}
 use Rattle.line.proofs.pair_at.Tie as tie
 
-field-requires : tie.Need-field-requires
-field-requires c κs = search needs
-
-enum-known-f : tie.Need-enum-known-f
-enum-known-f c = search needs
-
-enum-told : tie.Need-enum-told
-enum-told c = search needs
-
 returns : tie.Need-returns
 unfolding pairOf
 returns c =
@@ -28,12 +19,6 @@ returns c =
 field-requires-2 : tie.Need-field-requires-2
 unfolding lastOf
 field-requires-2 c κs = omega (arith, c .before .before .before .field .ensures .1, ap lastOf (c .before .f .given .1))
-
-enum-known-s : tie.Need-enum-known-s
-enum-known-s c = search needs
-
-enum-told-2 : tie.Need-enum-told-2
-enum-told-2 c = search needs
 
 returns-2 : tie.Need-returns-2
 unfolding pairOf
@@ -68,14 +53,5 @@ returns-4 c =
 pub pair-at-spec : {M : Type 1} → statement M
 pair-at-spec =
     tie.close
-    (tie.spec
-    field-requires
-    enum-known-f
-    enum-told
-    returns
-    field-requires-2
-    enum-known-s
-    enum-told-2
-    returns-2
-    returns-3
-    returns-4)
+    (tie.spec (λ c κs. search needs) (λ c. search needs) (λ c. search needs) returns field-requires-2
+    (λ c. search needs) (λ c. search needs) returns-2 returns-3 returns-4)

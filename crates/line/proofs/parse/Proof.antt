@@ -10,12 +10,6 @@ use Rattle.line.proofs.Requests.{request-first, request-next}
 use Rattle.line.proofs.parse.Statement.{statement}
 use Rattle.line.proofs.parse.Tie as tie
 
-format-line-requires : tie.Need-format-line-requires
-format-line-requires c κs = search needs
-
-enum-told : tie.Need-enum-told
-enum-told c = search needs
-
 returns : tie.Need-returns
 unfolding parsed otherCall
 returns c =
@@ -24,12 +18,6 @@ returns c =
     let post = andThen (numbers postNames line) (three postCall) in
     let f = c .before .format-line .ensures in
     f ∙ request-first format (orTry post (otherCall line)) (rw f at (c .match .keys2))
-
-post-line-requires : tie.Need-post-line-requires
-post-line-requires c κs = search needs
-
-enum-told-2 : tie.Need-enum-told-2
-enum-told-2 c = search needs
 
 returns-2 : tie.Need-returns-2
 unfolding parsed otherCall
@@ -40,9 +28,6 @@ returns-2 c =
     let p = c .before .post-line .ensures in
     let no-format = sym (c .before .before .before .before .format-line .ensures) ∙ c .before .before .enum-told .given .1 in
     p ∙ request-first post (otherCall line) (rw p at (c .match2 .keys2)) ∙ request-next format (orTry post (otherCall line)) no-format
-
-other-line-requires : tie.Need-other-line-requires
-other-line-requires c κs = search needs
 
 returns-3 : tie.Need-returns-3
 unfolding parsed otherCall
@@ -57,12 +42,5 @@ returns-3 c =
 pub parse-spec : {M : Type 1} → statement M
 parse-spec =
     tie.close
-    (tie.spec
-    format-line-requires
-    enum-told
-    returns
-    post-line-requires
-    enum-told-2
-    returns-2
-    other-line-requires
-    returns-3)
+    (tie.spec (λ c κs. search needs) (λ c. search needs) returns (λ c κs. search needs) (λ c. search needs) returns-2
+    (λ c κs. search needs) returns-3)

@@ -13,18 +13,6 @@ use Rattle.line.proofs.Requests.{callOf, three-of}
 use Rattle.line.proofs.post_line.Statement.{statement}
 use Rattle.line.proofs.post_line.Tie as tie
 
-slice-aggregate-field : tie.Need-slice-aggregate-field
-slice-aggregate-field c = search needs
-
-field-requires : tie.Need-field-requires
-field-requires c κs = search needs
-
-enum-known-b : tie.Need-enum-known-b
-enum-known-b c = search needs
-
-enum-told : tie.Need-enum-told
-enum-told c = search needs
-
 returns : tie.Need-returns
 unfolding text postNames requestOf
 returns c =
@@ -33,21 +21,9 @@ returns c =
     let others = text " at=" ∷ text " time=" ∷ [] in
     rw (numbers-none line first others 0 _ (c .before .before .field .ensures .0) (c .enum-told .given .1))
 
-slice-aggregate-pair-at : tie.Need-slice-aggregate-pair-at
-slice-aggregate-pair-at c = search needs
-
-slice-aggregate-pair-at-2 : tie.Need-slice-aggregate-pair-at-2
-slice-aggregate-pair-at-2 c = search needs
-
 pair-at-requires : tie.Need-pair-at-requires
 unfolding lastOf
 pair-at-requires c κs = omega (arith, c .before .before .before .before .before .field .ensures .1, ap lastOf (c .before .before .before .b .given .1))
-
-enum-known-p : tie.Need-enum-known-p
-enum-known-p c = search needs
-
-enum-told-2 : tie.Need-enum-told-2
-enum-told-2 c = search needs
 
 returns-2 : tie.Need-returns-2
 unfolding text postNames requestOf callOf
@@ -74,16 +50,5 @@ returns-3 c =
 pub post-line-spec : {M : Type 1} → statement M
 post-line-spec =
     tie.close
-    (tie.spec
-    slice-aggregate-field
-    field-requires
-    enum-known-b
-    enum-told
-    returns
-    slice-aggregate-pair-at
-    slice-aggregate-pair-at-2
-    pair-at-requires
-    enum-known-p
-    enum-told-2
-    returns-2
-    returns-3)
+    (tie.spec (λ c. search needs) (λ c κs. search needs) (λ c. search needs) (λ c. search needs) returns
+    (λ c. search needs) (λ c. search needs) pair-at-requires (λ c. search needs) (λ c. search needs) returns-2 returns-3)

@@ -16,22 +16,10 @@ Inv-loop line at value₀ i₀ value i = (i ≤ length line) × (value ≤ 42949
 abbrev μ-loop : tie.MeasureT-loop
 μ-loop line at value₀ i₀ value i = length line - i
 
-loop-holds : tie.Need-loop-holds Inv-loop μ-loop
-loop-holds c = search needs
-
-digit-at-requires : tie.Need-digit-at-requires Inv-loop μ-loop
-digit-at-requires c κs = search needs
-
-mul-next : tie.Need-mul-next Inv-loop μ-loop
-mul-next c = search needs
-
 shared-slice-read-wide : tie.Need-shared-slice-read-wide Inv-loop μ-loop
 shared-slice-read-wide c =
     let l = c .before .before .before in
     digit-first (now (l .before .before .args .line)) (l .loop .i) (sym (c .before .before .digit-at .ensures) ∙ c .before .if1 .taken) .0
-
-wide-requires : tie.Need-wide-requires Inv-loop μ-loop
-wide-requires c κs = search needs
 
 sub-next : tie.Need-sub-next Inv-loop μ-loop
 sub-next c =
@@ -71,9 +59,6 @@ loop-again c =
     let near = digit-first (now (l .before .before .args .line)) (l .loop .i) d .0 in
     (search needs, c .if2 .left, rw (c .before .wide .ensures) (run-more (now (l .before .before .args .line)) (l .loop .value) (l .loop .i) _ d (l .loop .inv .2) (rw (c .before .wide .ensures) at (c .if2 .left))))
 
-cast-t13 : tie.Need-cast-t13 Inv-loop μ-loop
-cast-t13 c = search needs
-
 returns-2 : tie.Need-returns-2 Inv-loop μ-loop
 unfolding pieceAt lastOf
 returns-2 c =
@@ -83,19 +68,5 @@ returns-2 c =
 pub run-spec : {M : Type 1} → statement M
 run-spec =
     tie.close
-    (tie.spec
-    Inv-loop
-    μ-loop
-    loop-holds
-    digit-at-requires
-    mul-next
-    shared-slice-read-wide
-    wide-requires
-    sub-next
-    add-next
-    returns
-    add-i
-    loop-less
-    loop-again
-    cast-t13
-    returns-2)
+    (tie.spec Inv-loop μ-loop (λ c. search needs) (λ c κs. search needs) (λ c. search needs) shared-slice-read-wide
+    (λ c κs. search needs) sub-next add-next returns add-i loop-less loop-again (λ c. search needs) returns-2)

@@ -8,15 +8,6 @@ use borrow.Author.Needs.{needs}
 use Rattle.next.proofs.arrive.Statement.{statement}
 use Rattle.next.proofs.arrive.Tie as tie
 
-bucket-part-requires : tie.Need-bucket-part-requires
-bucket-part-requires c κs = search needs
-
-standing-requires : tie.Need-standing-requires
-standing-requires c κs = search needs
-
-enum-known-found : tie.Need-enum-known-found
-enum-known-found c = search needs
-
 returns : tie.Need-returns
 returns c =
     let asked = c .before in
@@ -36,4 +27,4 @@ returns-2 c =
 
 pub arrive-spec : {M : Type 1} → statement M
 arrive-spec =
-    tie.close (tie.spec bucket-part-requires standing-requires enum-known-found returns returns-2)
+    tie.close (tie.spec (λ c κs. search needs) (λ c κs. search needs) (λ c. search needs) returns returns-2)

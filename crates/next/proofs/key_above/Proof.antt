@@ -6,12 +6,6 @@ use borrow.Author.Needs.{needs}
 use Rattle.next.proofs.key_above.Statement.{statement}
 use Rattle.next.proofs.key_above.Tie as tie
 
-bucket-part-requires : tie.Need-bucket-part-requires
-bucket-part-requires c κs = search needs
-
-least-above-requires : tie.Need-least-above-requires
-least-above-requires c κs = search needs
-
 returns : tie.Need-returns
 returns c =
     let e = c .before .before .before in
@@ -20,4 +14,4 @@ returns c =
     rw (c .before .bucket-part .ensures .0, part-sectors (a .head) (now (a .card)) (a .b) fits) at (c .least-above .ensures)
 
 pub key-above-spec : {M : Type 1} → statement M
-key-above-spec = tie.close (tie.spec bucket-part-requires least-above-requires returns)
+key-above-spec = tie.close (tie.spec (λ c κs. search needs) (λ c κs. search needs) returns)

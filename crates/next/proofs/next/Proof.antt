@@ -8,18 +8,6 @@ use borrow.Author.Needs.{needs}
 use Rattle.next.proofs.next.Statement.{statement}
 use Rattle.next.proofs.next.Tie as tie
 
-read-head-requires : tie.Need-read-head-requires
-read-head-requires c κs = search needs
-
-enum-known-layout : tie.Need-enum-known-layout
-enum-known-layout c = search needs
-
-enum-told : tie.Need-enum-told
-enum-told c = search needs
-
-refusal-requires : tie.Need-refusal-requires
-refusal-requires c κs = search needs
-
 returns : tie.Need-returns
 returns c =
     let read = c .before .before .before in
@@ -30,12 +18,6 @@ find-root-requires c κs =
     let sound = c .before in
     let read = sound .before .before in
     shape-of _ _ (sound-some _ _ (sym (read .read-head .ensures) ∙ sound .layout .given .1))
-
-enum-known-found : tie.Need-enum-known-found
-enum-known-found c = search needs
-
-refusal-requires-2 : tie.Need-refusal-requires-2
-refusal-requires-2 c κs = search needs
 
 returns-2 : tie.Need-returns-2
 returns-2 c =
@@ -63,15 +45,5 @@ returns-3 c =
 pub next-spec : {M : Type 1} → statement M
 next-spec =
     tie.close
-    (tie.spec
-    read-head-requires
-    enum-known-layout
-    enum-told
-    refusal-requires
-    returns
-    find-root-requires
-    enum-known-found
-    refusal-requires-2
-    returns-2
-    walk-on-requires
-    returns-3)
+    (tie.spec (λ c κs. search needs) (λ c. search needs) (λ c. search needs) (λ c κs. search needs) returns
+    find-root-requires (λ c. search needs) (λ c κs. search needs) returns-2 walk-on-requires returns-3)

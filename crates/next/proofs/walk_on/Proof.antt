@@ -25,12 +25,6 @@ walk-to-requires c κs =
     let n = e .args .head .n in
     (e .pre .0, root-found n (now (e .args .card)) (e .args .t) 1 n _ (e .pre .1))
 
-enum-told : tie.Need-enum-told Inv-loop μ-loop
-enum-told c = search needs
-
-refusal-requires : tie.Need-refusal-requires Inv-loop μ-loop
-refusal-requires c κs = search needs
-
 -- what was walked is the rule's walk
 leg-at : (q : tie.After-walk-to Inv-loop μ-loop) →
     let turn = q .before in
@@ -67,32 +61,14 @@ returns : tie.Need-returns Inv-loop μ-loop
 unfolding after
 returns c = rw (c .refusal .ensures) (rw (c .before .enum-told .given .1) at (turn-at (c .before .before .before)))
 
-enum-known-leg : tie.Need-enum-known-leg Inv-loop μ-loop
-enum-known-leg c = search needs
-
-given-requires : tie.Need-given-requires Inv-loop μ-loop
-given-requires c κs = search needs
-
 returns-2 : tie.Need-returns-2 Inv-loop μ-loop
 unfolding after
 returns-2 c = rw (c .given .ensures) (rw (c .before .before .leg .given .1) at (turn-at (c .before .before .before .before)))
-
-enum-known-leg-2 : tie.Need-enum-known-leg-2 Inv-loop μ-loop
-enum-known-leg-2 c = search needs
-
-enum-known-up : tie.Need-enum-known-up Inv-loop μ-loop
-enum-known-up c = search needs
-
-at-end-requires : tie.Need-at-end-requires Inv-loop μ-loop
-at-end-requires c κs = search needs
 
 returns-3 : tie.Need-returns-3 Inv-loop μ-loop
 returns-3 c =
     let over = c .before .before .before in
     rw (c .at-end .ensures) (no-more _ _ (c .before .match2 .keys2) ∙ (rw (over .leg2 .given .1) at (turn-at (over .before .before))))
-
-key-of-requires : tie.Need-key-of-requires Inv-loop μ-loop
-key-of-requires c κs = search needs
 
 loop-less : tie.Need-loop-less Inv-loop μ-loop
 loop-less c = let rises = rise-at c in omega arith
@@ -108,21 +84,6 @@ loop-again c =
 pub walk-on-spec : {M : Type 1} → statement M
 walk-on-spec =
     tie.close
-    (tie.spec
-    Inv-loop
-    μ-loop
-    loop-holds
-    walk-to-requires
-    enum-told
-    refusal-requires
-    returns
-    enum-known-leg
-    given-requires
-    returns-2
-    enum-known-leg-2
-    enum-known-up
-    at-end-requires
-    returns-3
-    key-of-requires
-    loop-less
-    loop-again)
+    (tie.spec Inv-loop μ-loop loop-holds walk-to-requires (λ c. search needs) (λ c κs. search needs) returns
+    (λ c. search needs) (λ c κs. search needs) returns-2 (λ c. search needs) (λ c. search needs) (λ c κs. search needs)
+    returns-3 (λ c κs. search needs) loop-less loop-again)

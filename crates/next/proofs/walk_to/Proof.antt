@@ -19,9 +19,6 @@ Inv-loop card head root k x t n b₀ header₀ reads₀ up₀ b header reads up 
 abbrev μ-loop : tie.MeasureT-loop
 μ-loop card head root k x t n b₀ header₀ reads₀ up₀ b header reads up = head .n - reads
 
-cast-n : tie.Need-cast-n Inv-loop μ-loop
-cast-n c = search needs
-
 loop-holds : tie.Need-loop-holds Inv-loop μ-loop
 loop-holds c = (search needs, search needs, search needs, rw sub-zero)
 
@@ -30,15 +27,6 @@ returns c =
     let turn = c .before in
     let a = turn .before .before .before .args in
     leg-out (a .head) (now (a .card)) (a .k) (a .x) (a .t) (turn .loop .reads) _ _ _ _ (c .if1 .taken) (turn .loop .inv .3)
-
-search-requires : tie.Need-search-requires Inv-loop μ-loop
-search-requires c κs = search needs
-
-add-reads : tie.Need-add-reads Inv-loop μ-loop
-add-reads c = search needs
-
-enum-told : tie.Need-enum-told Inv-loop μ-loop
-enum-told c = search needs
 
 -- what the bucket's search says of the whole walk
 turn-at : (q : tie.After-search Inv-loop μ-loop) →
@@ -57,15 +45,6 @@ returns-2 : tie.Need-returns-2 Inv-loop μ-loop
 unfolding stride
 returns-2 c = rw (c .enum-told .given .1) at (turn-at (c .before .before))
 
-enum-known-way : tie.Need-enum-known-way Inv-loop μ-loop
-enum-known-way c = search needs
-
-key-above-requires : tie.Need-key-above-requires Inv-loop μ-loop
-key-above-requires c κs = search needs
-
-loop-less : tie.Need-loop-less Inv-loop μ-loop
-loop-less c = search needs
-
 loop-again : tie.Need-loop-again Inv-loop μ-loop
 unfolding stride
 loop-again c =
@@ -76,21 +55,9 @@ loop-again c =
     let inside = down-inside (a .head) (now (a .card)) (a .x) (a .t) (turn .loop .b) (turn .loop .header) _ _ (found .search .ensures) (down .way .given .1) in
     (search needs, inside .0, inside .1, rw (c .key-above .ensures) (rw (down .way .given .1) at (turn-at found)))
 
-enum-told-2 : tie.Need-enum-told-2 Inv-loop μ-loop
-enum-told-2 c = search needs
-
-arrive-requires : tie.Need-arrive-requires Inv-loop μ-loop
-arrive-requires c κs = search needs
-
 returns-3 : tie.Need-returns-3 Inv-loop μ-loop
 unfolding stride
 returns-3 c = rw (c .arrive .ensures) (rw (c .before .enum-told2 .given .1) at (turn-at (c .before .before .before)))
-
-enum-told-3 : tie.Need-enum-told-3 Inv-loop μ-loop
-enum-told-3 c = search needs
-
-arrive-requires-2 : tie.Need-arrive-requires-2 Inv-loop μ-loop
-arrive-requires-2 c κs = search needs
 
 returns-4 : tie.Need-returns-4 Inv-loop μ-loop
 unfolding stride
@@ -99,23 +66,6 @@ returns-4 c = rw (c .arrive2 .ensures) (rw (c .before .enum-told3 .given .1) at 
 pub walk-to-spec : {M : Type 1} → statement M
 walk-to-spec =
     tie.close
-    (tie.spec
-    Inv-loop
-    μ-loop
-    cast-n
-    loop-holds
-    returns
-    search-requires
-    add-reads
-    enum-told
-    returns-2
-    enum-known-way
-    key-above-requires
-    loop-less
-    loop-again
-    enum-told-2
-    arrive-requires
-    returns-3
-    enum-told-3
-    arrive-requires-2
-    returns-4)
+    (tie.spec Inv-loop μ-loop (λ c. search needs) loop-holds returns (λ c κs. search needs) (λ c. search needs)
+    (λ c. search needs) returns-2 (λ c. search needs) (λ c κs. search needs) (λ c. search needs) loop-again
+    (λ c. search needs) (λ c κs. search needs) returns-3 (λ c. search needs) (λ c κs. search needs) returns-4)

@@ -4,12 +4,9 @@ use borrow.Author.Needs.{needs}
 use Rattle.panel.proofs.digits.Statement.{statement}
 use Rattle.panel.proofs.digits.Tie as tie
 
-of-hundredths-requires : tie.Need-of-hundredths-requires
-of-hundredths-requires c κs = search needs
-
 returns : tie.Need-returns
 unfolding panel hundredths
 returns c = search needs
 
 pub digits-spec : {M : Type 1} → statement M
-digits-spec = tie.close (tie.spec of-hundredths-requires returns)
+digits-spec = tie.close (tie.spec (λ c κs. search needs) returns)

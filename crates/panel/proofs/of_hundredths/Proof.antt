@@ -5,29 +5,17 @@ use borrow.Author.Needs.{needs}
 use Rattle.panel.proofs.of_hundredths.Statement.{statement}
 use Rattle.panel.proofs.of_hundredths.Tie as tie
 
-four-requires : tie.Need-four-requires
-four-requires c κs = search needs
-
 returns : tie.Need-returns
 unfolding panelOf
 returns c = search (needs, eq-eqb, ne-eqb)
-
-five-requires : tie.Need-five-requires
-five-requires c κs = search needs
 
 returns-2 : tie.Need-returns-2
 unfolding panelOf
 returns-2 c = search (needs, eq-eqb, ne-eqb)
 
-six-requires : tie.Need-six-requires
-six-requires c κs = search needs
-
 returns-3 : tie.Need-returns-3
 unfolding panelOf
 returns-3 c = search (needs, eq-eqb, ne-eqb)
-
-refusal-requires : tie.Need-refusal-requires
-refusal-requires c κs = search needs
 
 returns-4 : tie.Need-returns-4
 unfolding panelOf
@@ -36,12 +24,5 @@ returns-4 c = search (needs, eq-eqb, ne-eqb)
 pub of-hundredths-spec : {M : Type 1} → statement M
 of-hundredths-spec =
     tie.close
-    (tie.spec
-    four-requires
-    returns
-    five-requires
-    returns-2
-    six-requires
-    returns-3
-    refusal-requires
-    returns-4)
+    (tie.spec (λ c κs. search needs) returns (λ c κs. search needs) returns-2 (λ c κs. search needs) returns-3
+    (λ c κs. search needs) returns-4)

@@ -20,23 +20,11 @@ loop-holds : tie.Need-loop-holds Inv-loop μ-loop
 unfolding decimal
 loop-holds c = (search needs, omega arith, search needs, rw (drop-of-length-le (now (c .args .room)) {i = 9 + 1} (omega arith)))
 
-add-room : tie.Need-add-room Inv-loop μ-loop
-add-room c = search needs
-
-cast-room : tie.Need-cast-room Inv-loop μ-loop
-cast-room c = search needs
-
-slice-write-room : tie.Need-slice-write-room Inv-loop μ-loop
-slice-write-room c = search needs
-
 sub-k : tie.Need-sub-k Inv-loop μ-loop
 sub-k c =
     let l = c .before .loop in
     let p = places (l .left) (l .k) (c .loop-test .taken) (l .inv .1) in
     omega arith
-
-loop-less : tie.Need-loop-less Inv-loop μ-loop
-loop-less c = search needs
 
 loop-again : tie.Need-loop-again Inv-loop μ-loop
 loop-again c =
@@ -44,18 +32,6 @@ loop-again c =
     let p = places (l .left) (l .k) (c .loop-test .taken) (l .inv .1) in
     let back : l .k - 1 + 1 ≡ l .k = omega (arith, p .0) in
     (search needs, rw back (p .1), search needs, digit-stored (l .room) (l .left) (l .k) _ (omega (arith, l .inv, c .before .before .pre)) (l .inv .3) (c .loop-test .taken) (p .0))
-
-add-room-2 : tie.Need-add-room-2 Inv-loop μ-loop
-add-room-2 c = search needs
-
-cast-room-2 : tie.Need-cast-room-2 Inv-loop μ-loop
-cast-room-2 c = search needs
-
-slice-write-room-2 : tie.Need-slice-write-room-2 Inv-loop μ-loop
-slice-write-room-2 c = search needs
-
-same-length : tie.Need-same-length Inv-loop μ-loop
-same-length c = search needs
 
 returns : tie.Need-returns Inv-loop μ-loop
 returns c =
@@ -65,18 +41,6 @@ returns c =
 pub digits-spec : {M : Type 1} → statement M
 digits-spec =
     tie.close
-    (tie.spec
-    Inv-loop
-    μ-loop
-    loop-holds
-    add-room
-    cast-room
-    slice-write-room
-    sub-k
-    loop-less
-    loop-again
-    add-room-2
-    cast-room-2
-    slice-write-room-2
-    same-length
+    (tie.spec Inv-loop μ-loop loop-holds (λ c. search needs) (λ c. search needs) (λ c. search needs) sub-k
+    (λ c. search needs) loop-again (λ c. search needs) (λ c. search needs) (λ c. search needs) (λ c. search needs)
     returns)

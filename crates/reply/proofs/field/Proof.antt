@@ -6,15 +6,6 @@ use Rattle.reply.proofs.Texts.{two-laid}
 use Rattle.reply.proofs.field.Statement.{statement}
 use Rattle.reply.proofs.field.Tie as tie
 
-put-requires : tie.Need-put-requires
-put-requires c κs = search needs
-
-number-requires : tie.Need-number-requires
-number-requires c κs = search needs
-
-same-length : tie.Need-same-length
-same-length c = search needs
-
 returns : tie.Need-returns
 returns c =
     let a = c .before .before .before .before .before .before .before .before .before .before .args in
@@ -24,4 +15,4 @@ returns c =
     (both .0, both .1, omega (arith, p .1, n .2))
 
 pub field-spec : {M : Type 1} → statement M
-field-spec = tie.close (tie.spec put-requires number-requires same-length returns)
+field-spec = tie.close (tie.spec (λ c κs. search needs) (λ c κs. search needs) (λ c. search needs) returns)

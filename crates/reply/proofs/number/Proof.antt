@@ -5,27 +5,6 @@ use Rattle.reply.proofs.Texts.{end-laid}
 use Rattle.reply.proofs.number.Statement.{statement}
 use Rattle.reply.proofs.number.Tie as tie
 
-slice-aggregate-digits : tie.Need-slice-aggregate-digits
-slice-aggregate-digits c = search needs
-
-digits-requires : tie.Need-digits-requires
-digits-requires c κs = search needs
-
-sub-put : tie.Need-sub-put
-sub-put c = search needs
-
-part-put-start : tie.Need-part-put-start
-part-put-start c = search needs
-
-part-put-end : tie.Need-part-put-end
-part-put-end c = search needs
-
-put-requires : tie.Need-put-requires
-put-requires c κs = search needs
-
-same-length : tie.Need-same-length
-same-length c = search needs
-
 returns : tie.Need-returns
 returns c =
     let d = c .before .before .before .before .before .before .before .digits in
@@ -35,12 +14,5 @@ returns c =
 pub number-spec : {M : Type 1} → statement M
 number-spec =
     tie.close
-    (tie.spec
-    slice-aggregate-digits
-    digits-requires
-    sub-put
-    part-put-start
-    part-put-end
-    put-requires
-    same-length
-    returns)
+    (tie.spec (λ c. search needs) (λ c κs. search needs) (λ c. search needs) (λ c. search needs) (λ c. search needs)
+    (λ c κs. search needs) (λ c. search needs) returns)

@@ -5,15 +5,6 @@ use Rattle.scroll.proofs.Rolls.{records-all, records-none}
 use Rattle.scroll.proofs.records.Statement.{statement}
 use Rattle.scroll.proofs.records.Tie as tie
 
-counted-requires : tie.Need-counted-requires
-counted-requires c κs = search needs
-
-lay-requires : tie.Need-lay-requires
-lay-requires c κs = search needs
-
-same-length : tie.Need-same-length
-same-length c = search needs
-
 returns : tie.Need-returns
 returns c =
     let begun = c .before .before .before .before .before .before in
@@ -27,4 +18,4 @@ returns-2 c =
     records-none (now (a .card)) (a .at) _ (a .bib) (now (a .out)) (begun .counted .result) (begun .counted .ensures .0) (search needs)
 
 pub records-spec : {M : Type 1} → statement M
-records-spec = tie.close (tie.spec counted-requires lay-requires same-length returns returns-2)
+records-spec = tie.close (tie.spec (λ c κs. search needs) (λ c κs. search needs) (λ c. search needs) returns returns-2)

@@ -6,9 +6,6 @@ use borrow.Author.Needs.{needs}
 use Rattle.sector.proofs.judge.Statement.{statement}
 use Rattle.sector.proofs.judge.Tie as tie
 
-keeps-row-requires : tie.Need-keeps-row-requires
-keeps-row-requires c κs = search needs
-
 returns : tie.Need-returns
 unfolding judged
 returns c = search (needs, sym (c .before .keeps-row .ensures) ∙ c .if1 .taken)
@@ -36,4 +33,4 @@ returns-6 c = search (needs, ne-eqb, sym (c .before .before .keeps-row .ensures)
 pub judge-spec : {M : Type 1} → statement M
 judge-spec =
     tie.close
-    (tie.spec keeps-row-requires returns returns-2 returns-3 returns-4 returns-5 returns-6)
+    (tie.spec (λ c κs. search needs) returns returns-2 returns-3 returns-4 returns-5 returns-6)

@@ -25,15 +25,9 @@ returns-5 : tie.Need-returns-5
 unfolding legal
 returns-5 c = search (needs, eq-eqb, ne-eqb, le-leb, lt-leb)
 
-names-bucket-requires : tie.Need-names-bucket-requires
-names-bucket-requires c κs = search needs
-
 returns-6 : tie.Need-returns-6
 unfolding legal
 returns-6 c = search (needs, eq-eqb, ne-eqb, c .names-bucket .ensures)
-
-names-bucket-requires-2 : tie.Need-names-bucket-requires-2
-names-bucket-requires-2 c κs = search needs
 
 returns-7 : tie.Need-returns-7
 unfolding legal
@@ -50,15 +44,5 @@ returns-9 c = search (needs, ne-eqb, le-leb, lt-leb)
 pub keeps-row-spec : {M : Type 1} → statement M
 keeps-row-spec =
     tie.close
-    (tie.spec
-    returns
-    returns-2
-    returns-3
-    returns-4
-    returns-5
-    names-bucket-requires
-    returns-6
-    names-bucket-requires-2
-    returns-7
-    returns-8
-    returns-9)
+    (tie.spec returns returns-2 returns-3 returns-4 returns-5 (λ c κs. search needs) returns-6 (λ c κs. search needs)
+    returns-7 returns-8 returns-9)

@@ -10,25 +10,10 @@ use Rattle.serve.specs.Feeds.{fedTo, byteOn, heard}
 use Rattle.serve.proofs.byte.Statement.{statement}
 use Rattle.serve.proofs.byte.Tie as tie
 
-slice-reshare-prefix-respond : tie.Need-slice-reshare-prefix-respond
-slice-reshare-prefix-respond c = search needs
-
 slice-aggregate-respond : tie.Need-slice-aggregate-respond
 slice-aggregate-respond c =
     let p = c .before .before .before .before .before .before .before .pre in
     simp length-take (omega (arith, p .long, p .kept))
-
-respond-requires : tie.Need-respond-requires
-respond-requires c κs = search needs
-
-same-length : tie.Need-same-length
-same-length c = search needs
-
-same-length-2 : tie.Need-same-length-2
-same-length-2 c = search needs
-
-same-length-3 : tie.Need-same-length-3
-same-length-3 c = search needs
 
 returns : tie.Need-returns
 unfolding byteOn heard
@@ -41,12 +26,6 @@ returns c =
       record { long = p .long; kept = omega (arith, k .ensures .0 .1); holds = k .ensures .0 .0; wide = k .kept .1 .0 ∙ p .wide; fits = k .ensures .0 .2 },
       (rw newline (ap₂ fedTo (k .ensures .1 .0) empty), rw newline (k .ensures .1 .1)),
     )
-
-feed-requires : tie.Need-feed-requires
-feed-requires c κs = search needs
-
-same-length-4 : tie.Need-same-length-4
-same-length-4 c = search needs
 
 returns-2 : tie.Need-returns-2
 unfolding byteOn heard
@@ -62,14 +41,5 @@ returns-2 c =
 pub byte-spec : {M : Type 1} → statement M
 byte-spec =
     tie.close
-    (tie.spec
-    slice-reshare-prefix-respond
-    slice-aggregate-respond
-    respond-requires
-    same-length
-    same-length-2
-    same-length-3
-    returns
-    feed-requires
-    same-length-4
-    returns-2)
+    (tie.spec (λ c. search needs) slice-aggregate-respond (λ c κs. search needs) (λ c. search needs) (λ c. search needs)
+    (λ c. search needs) returns (λ c κs. search needs) (λ c. search needs) returns-2)

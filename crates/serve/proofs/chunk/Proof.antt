@@ -21,9 +21,6 @@ abbrev μ-loop : tie.MeasureT-loop
 loop-holds : tie.Need-loop-holds Inv-loop μ-loop
 loop-holds c = (search needs, refl, refl, refl, c .before .before .before .before .pre, refl)
 
-shared-slice-read-byte : tie.Need-shared-slice-read-byte Inv-loop μ-loop
-shared-slice-read-byte c = search needs
-
 byte-requires : tie.Need-byte-requires Inv-loop μ-loop
 byte-requires c κs = c .before .before .before .before .before .loop .inv .4
 
@@ -37,15 +34,6 @@ slice-aggregate-write-all c =
     let k = c .before .before .before .before .before .before .before .byte .ensures .0 in
     simp length-take (omega (arith, k .fits, k .wide))
 
-write-all-requires : tie.Need-write-all-requires Inv-loop μ-loop
-write-all-requires c κs = search needs
-
-add-i : tie.Need-add-i Inv-loop μ-loop
-add-i c = search needs
-
-loop-less : tie.Need-loop-less Inv-loop μ-loop
-loop-less c = search needs
-
 loop-again : tie.Need-loop-again Inv-loop μ-loop
 loop-again c =
     let k = c .before .before .before .before .before .before .before .before .byte in
@@ -55,15 +43,6 @@ loop-again c =
     let kept = take (l .state .used) (l .room) in
     let turn = fed-more card kept got (l .i) _ (c .before .before .before .before .before .before .before .before .before .before .before .before .before .loop-test .taken) (k .ensures .1 .0) in
     (search needs, k .kept .0 ∙ l .inv .1, k .kept .1 .0 ∙ l .inv .2, k .kept .1 .1 .0 ∙ l .inv .3, k .ensures .0, sym turn ∙ l .inv .5)
-
-same-length : tie.Need-same-length Inv-loop μ-loop
-same-length c = search needs
-
-same-length-2 : tie.Need-same-length-2 Inv-loop μ-loop
-same-length-2 c = search needs
-
-same-length-3 : tie.Need-same-length-3 Inv-loop μ-loop
-same-length-3 c = search needs
 
 returns : tie.Need-returns Inv-loop μ-loop
 unfolding fed
@@ -75,19 +54,6 @@ returns c =
 pub chunk-spec : {M : Type 1} → statement M
 chunk-spec =
     tie.close
-    (tie.spec
-    Inv-loop
-    μ-loop
-    loop-holds
-    shared-slice-read-byte
-    byte-requires
-    slice-reshare-prefix-write-all
-    slice-aggregate-write-all
-    write-all-requires
-    add-i
-    loop-less
-    loop-again
-    same-length
-    same-length-2
-    same-length-3
-    returns)
+    (tie.spec Inv-loop μ-loop loop-holds (λ c. search needs) byte-requires slice-reshare-prefix-write-all
+    slice-aggregate-write-all (λ c κs. search needs) (λ c. search needs) (λ c. search needs) loop-again
+    (λ c. search needs) (λ c. search needs) (λ c. search needs) returns)

@@ -6,15 +6,6 @@ use Rattle.serve.proofs.Turns.{kept-more, kept-full}
 use Rattle.serve.proofs.feed.Statement.{statement}
 use Rattle.serve.proofs.feed.Tie as tie
 
-slice-write-room : tie.Need-slice-write-room
-slice-write-room c = search needs
-
-add-result : tie.Need-add-result
-add-result c = search needs
-
-same-length : tie.Need-same-length
-same-length c = search needs
-
 returns : tie.Need-returns
 returns c =
     let a = c .before .args in
@@ -28,4 +19,4 @@ returns-2 c =
     (kept-full (now (a .room)) (a .used) (a .b) (p .0) (p .1) (omega (arith, c .if1 .left)), search needs)
 
 pub feed-spec : {M : Type 1} → statement M
-feed-spec = tie.close (tie.spec slice-write-room add-result same-length returns returns-2)
+feed-spec = tie.close (tie.spec (λ c. search needs) (λ c. search needs) (λ c. search needs) returns returns-2)

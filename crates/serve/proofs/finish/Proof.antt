@@ -20,15 +20,6 @@ slice-aggregate-respond c =
     let p = c .before .before .before .before .before .before .before .pre in
     simp length-take (omega (arith, p .long, p .kept))
 
-respond-requires : tie.Need-respond-requires
-respond-requires c κs = search needs
-
-same-length : tie.Need-same-length
-same-length c = search needs
-
-same-length-2 : tie.Need-same-length-2
-same-length-2 c = search needs
-
 returns-2 : tie.Need-returns-2
 returns-2 c =
     let a = c .before .before .before .before .before .before .before .before .before .before .before .before .args in
@@ -41,4 +32,4 @@ returns-2 c =
 pub finish-spec : {M : Type 1} → statement M
 finish-spec =
     tie.close
-    (tie.spec returns slice-aggregate-respond respond-requires same-length same-length-2 returns-2)
+    (tie.spec returns slice-aggregate-respond (λ c κs. search needs) (λ c. search needs) (λ c. search needs) returns-2)

@@ -8,18 +8,6 @@ use Rattle.serve.proofs.Turns.{line-said}
 use Rattle.serve.proofs.respond.Statement.{statement}
 use Rattle.serve.proofs.respond.Tie as tie
 
-act-requires : tie.Need-act-requires
-act-requires c κs = search needs
-
-write-answer-requires : tie.Need-write-answer-requires
-write-answer-requires c κs = search needs
-
-same-length : tie.Need-same-length
-same-length c = search needs
-
-same-length-2 : tie.Need-same-length-2
-same-length-2 c = search needs
-
 returns : tie.Need-returns
 unfolding answered
 returns c =
@@ -31,4 +19,4 @@ returns c =
 
 pub respond-spec : {M : Type 1} → statement M
 respond-spec =
-    tie.close (tie.spec act-requires write-answer-requires same-length same-length-2 returns)
+    tie.close (tie.spec (λ c κs. search needs) (λ c κs. search needs) (λ c. search needs) (λ c. search needs) returns)

@@ -12,18 +12,6 @@ use Rattle.session.proofs.Lines.{no-format, card-there, no-card}
 use Rattle.session.proofs.act.Statement.{statement}
 use Rattle.session.proofs.act.Tie as tie
 
-parse-requires : tie.Need-parse-requires
-parse-requires c κs = search needs
-
-enum-known-q : tie.Need-enum-known-q
-enum-known-q c = search needs
-
-act-on-requires : tie.Need-act-on-requires
-act-on-requires c κs = search needs
-
-same-length : tie.Need-same-length
-same-length c = search needs
-
 returns : tie.Need-returns
 unfolding benchLine
 returns c =
@@ -36,9 +24,6 @@ returns c =
 first-format-requires : tie.Need-first-format-requires
 first-format-requires c κs = rw (c .before .if1 .taken) at (c .before .before .before .before .before .before .before .before .pre)
 
-same-length-2 : tie.Need-same-length-2
-same-length-2 c = search needs
-
 returns-2 : tie.Need-returns-2
 unfolding benchLine
 returns-2 c =
@@ -48,12 +33,6 @@ returns-2 c =
     let line = parsed (now (a .line)) in
     let none : benchDone (take 0 (now (a .card))) line ≡ benchDone (take (a .len) (now (a .card))) line = rw (c .before .before .before .before .if1 .taken) in
     (k .ensures .0, k .ensures .1 ∙ no-card line _ _ _ _ (sym parse ∙ c .before .before .before .before .before .before .q .given .1) ∙ none)
-
-act-on-requires-2 : tie.Need-act-on-requires-2
-act-on-requires-2 c κs = search needs
-
-same-length-3 : tie.Need-same-length-3
-same-length-3 c = search needs
 
 returns-3 : tie.Need-returns-3
 unfolding benchLine
@@ -70,15 +49,5 @@ returns-3 c =
 pub act-spec : {M : Type 1} → statement M
 act-spec =
     tie.close
-    (tie.spec
-    parse-requires
-    enum-known-q
-    act-on-requires
-    same-length
-    returns
-    first-format-requires
-    same-length-2
-    returns-2
-    act-on-requires-2
-    same-length-3
-    returns-3)
+    (tie.spec (λ c κs. search needs) (λ c. search needs) (λ c κs. search needs) (λ c. search needs) returns
+    first-format-requires (λ c. search needs) returns-2 (λ c κs. search needs) (λ c. search needs) returns-3)

@@ -12,17 +12,8 @@ use Rattle.session.proofs.Buffers.{front-is, front-back}
 use Rattle.session.proofs.act_on.Statement.{statement}
 use Rattle.session.proofs.act_on.Tie as tie
 
-slice-relend-prefix-call : tie.Need-slice-relend-prefix-call
-slice-relend-prefix-call c = search needs
-
 slice-aggregate-call : tie.Need-slice-aggregate-call
 slice-aggregate-call c = simp length-take (omega (arith, c .before .before .pre .inside, c .before .before .pre .long))
-
-call-requires : tie.Need-call-requires
-call-requires c κs = search needs
-
-same-length : tie.Need-same-length
-same-length c = search needs
 
 returns : tie.Need-returns
 returns c =
@@ -37,4 +28,4 @@ returns c =
 pub act-on-spec : {M : Type 1} → statement M
 act-on-spec =
     tie.close
-    (tie.spec slice-relend-prefix-call slice-aggregate-call call-requires same-length returns)
+    (tie.spec (λ c. search needs) slice-aggregate-call (λ c κs. search needs) (λ c. search needs) returns)

@@ -12,37 +12,16 @@ use Rattle.session.proofs.Firsts.{product-fits, first-large, card-made,
 use Rattle.session.proofs.first_format.Statement.{statement}
 use Rattle.session.proofs.first_format.Tie as tie
 
-add-behind : tie.Need-add-behind
-add-behind c = search needs
-
 mul-behind : tie.Need-mul-behind
 mul-behind c = omega (arith, product-fits (c .before .args .buckets) (c .before .args .sectors) (omega arith) (omega arith))
-
-refusal-requires : tie.Need-refusal-requires
-refusal-requires c κs = search needs
 
 returns : tie.Need-returns
 returns c =
     let a = c .before .before .before .args in
     (c .before .before .before .pre, ap (answered []) (c .refusal .ensures) ∙ first-large (a .buckets) (a .sectors) (a .td) (a .ti) (c .before .if1 .taken))
 
-add-len : tie.Need-add-len
-add-len c = search needs
-
-mul-len : tie.Need-mul-len
-mul-len c = search needs
-
-slice-relend-prefix-format : tie.Need-slice-relend-prefix-format
-slice-relend-prefix-format c = search needs
-
 slice-aggregate-format : tie.Need-slice-aggregate-format
 slice-aggregate-format c = simp length-take (omega (arith, c .before .before .before .pre .long))
-
-format-requires : tie.Need-format-requires
-format-requires c κs = search needs
-
-same-length : tie.Need-same-length
-same-length c = search needs
 
 returns-2 : tie.Need-returns-2
 returns-2 c =
@@ -53,9 +32,6 @@ returns-2 c =
     let len = 16 * (1 + a .buckets * (a .sectors + 1)) in
     let same : length (k .last .0) ≡ len = k .kept .0 ∙ length-take-le len (now (a .card)) (omega (arith, room .long)) in
     card-made (now (a .card)) (k .last .0) (k .result) (a .buckets) (a .sectors) (a .td) (a .ti) len refl fits room same (k .ensures .0) (k .ensures .1) (c .if2 .taken)
-
-same-length-2 : tie.Need-same-length-2
-same-length-2 c = search needs
 
 returns-3 : tie.Need-returns-3
 returns-3 c =
@@ -70,17 +46,6 @@ returns-3 c =
 pub first-format-spec : {M : Type 1} → statement M
 first-format-spec =
     tie.close
-    (tie.spec
-    add-behind
-    mul-behind
-    refusal-requires
-    returns
-    add-len
-    mul-len
-    slice-relend-prefix-format
-    slice-aggregate-format
-    format-requires
-    same-length
-    returns-2
-    same-length-2
+    (tie.spec (λ c. search needs) mul-behind (λ c κs. search needs) returns (λ c. search needs) (λ c. search needs)
+    (λ c. search needs) slice-aggregate-format (λ c κs. search needs) (λ c. search needs) returns-2 (λ c. search needs)
     returns-3)

@@ -23,20 +23,11 @@ abbrev μ-loop : tie.MeasureT-loop
 loop-holds : tie.Need-loop-holds Inv-loop μ-loop
 loop-holds c = (search needs, survey-none (c .before .args .head) (c .before .args .card .now))
 
-add-b : tie.Need-add-b Inv-loop μ-loop
-add-b c = search needs
-
 cast-bucket-part : tie.Need-cast-bucket-part Inv-loop μ-loop
 cast-bucket-part c = omega (arith, c .before .before .before .pre .lim .n4096)
 
 bucket-part-requires : tie.Need-bucket-part-requires Inv-loop μ-loop
 bucket-part-requires c κs = (c .before .before .before .pre, (omega arith, omega arith))
-
-all-zero-requires : tie.Need-all-zero-requires Inv-loop μ-loop
-all-zero-requires c κs = search needs
-
-loop-less : tie.Need-loop-less Inv-loop μ-loop
-loop-less c = search needs
 
 loop-again : tie.Need-loop-again Inv-loop μ-loop
 loop-again c =
@@ -45,15 +36,6 @@ loop-again c =
     let o = turn .before .before in
     let l = turn .loop in
     (search needs, l .inv .1 ∙ sym (survey-blank (o .args .head) (o .args .card .now) (l .b) (o .pre) (search needs) (ap zeros (sym (at-bucket-part .bucket-part .ensures .0)) ∙ sym (c .before .all-zero .ensures) ∙ c .if1 .taken)))
-
-top-stamp-requires : tie.Need-top-stamp-requires Inv-loop μ-loop
-top-stamp-requires c κs = search needs
-
-later-requires : tie.Need-later-requires Inv-loop μ-loop
-later-requires c κs = search needs
-
-loop-less-2 : tie.Need-loop-less-2 Inv-loop μ-loop
-loop-less-2 c = search needs
 
 loop-again-2 : tie.Need-loop-again-2 Inv-loop μ-loop
 loop-again-2 c =
@@ -79,18 +61,6 @@ returns c =
 pub survey-spec : {M : Type 1} → statement M
 survey-spec =
     tie.close
-    (tie.spec
-    Inv-loop
-    μ-loop
-    loop-holds
-    add-b
-    cast-bucket-part
-    bucket-part-requires
-    all-zero-requires
-    loop-less
-    loop-again
-    top-stamp-requires
-    later-requires
-    loop-less-2
-    loop-again-2
-    returns)
+    (tie.spec Inv-loop μ-loop loop-holds (λ c. search needs) cast-bucket-part bucket-part-requires
+    (λ c κs. search needs) (λ c. search needs) loop-again (λ c κs. search needs) (λ c κs. search needs)
+    (λ c. search needs) loop-again-2 returns)

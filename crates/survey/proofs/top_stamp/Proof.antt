@@ -17,33 +17,6 @@ abbrev μ-loop : tie.MeasureT-loop
 loop-holds : tie.Need-loop-holds Inv-loop μ-loop
 loop-holds c = (search needs, stamp-start (c .before .args .part .now) (c .before .args .m))
 
-mul-a : tie.Need-mul-a Inv-loop μ-loop
-mul-a c = search needs
-
-add-stamp-of : tie.Need-add-stamp-of Inv-loop μ-loop
-add-stamp-of c = search needs
-
-sub-stamp-of : tie.Need-sub-stamp-of Inv-loop μ-loop
-sub-stamp-of c = search needs
-
-part-stamp-of-start : tie.Need-part-stamp-of-start Inv-loop μ-loop
-part-stamp-of-start c = search needs
-
-part-stamp-of-end : tie.Need-part-stamp-of-end Inv-loop μ-loop
-part-stamp-of-end c = search needs
-
-stamp-of-requires : tie.Need-stamp-of-requires Inv-loop μ-loop
-stamp-of-requires c κs = search needs
-
-later-requires : tie.Need-later-requires Inv-loop μ-loop
-later-requires c κs = search needs
-
-add-i : tie.Need-add-i Inv-loop μ-loop
-add-i c = search needs
-
-loop-less : tie.Need-loop-less Inv-loop μ-loop
-loop-less c = search needs
-
 loop-again : tie.Need-loop-again Inv-loop μ-loop
 loop-again c =
     let turn = c .before .before .before .before in
@@ -57,18 +30,6 @@ returns c = let l = c .before .loop in let o = c .before .before .before in stam
 pub top-stamp-spec : {M : Type 1} → statement M
 top-stamp-spec =
     tie.close
-    (tie.spec
-    Inv-loop
-    μ-loop
-    loop-holds
-    mul-a
-    add-stamp-of
-    sub-stamp-of
-    part-stamp-of-start
-    part-stamp-of-end
-    stamp-of-requires
-    later-requires
-    add-i
-    loop-less
-    loop-again
+    (tie.spec Inv-loop μ-loop loop-holds (λ c. search needs) (λ c. search needs) (λ c. search needs) (λ c. search needs)
+    (λ c. search needs) (λ c κs. search needs) (λ c κs. search needs) (λ c. search needs) (λ c. search needs) loop-again
     returns)

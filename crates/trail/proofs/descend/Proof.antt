@@ -22,12 +22,6 @@ abbrev μ-loop : tie.MeasureT-loop
 loop-holds : tie.Need-loop-holds Inv-loop μ-loop
 loop-holds c = (search needs, search needs, search needs, search needs, rw sub-zero)
 
-lost-requires : tie.Need-lost-requires Inv-loop μ-loop
-lost-requires c κs = search needs
-
-same-length : tie.Need-same-length Inv-loop μ-loop
-same-length c = search needs
-
 returns : tie.Need-returns Inv-loop μ-loop
 returns c =
     let turn = c .before .before in
@@ -35,31 +29,16 @@ returns c =
     lost-leads _ _ _ (c .lost .ensures) (turn .loop .inv .3)
     (track-out (a .head) (now (a .card)) (a .key) (turn .loop .reads) (turn .loop .b) (turn .loop .header) _ _ (c .before .if1 .taken) (turn .loop .inv .4))
 
-search-requires : tie.Need-search-requires Inv-loop μ-loop
-search-requires c κs = search needs
-
-add-reads : tie.Need-add-reads Inv-loop μ-loop
-add-reads c = search needs
-
 sub-start : tie.Need-sub-start Inv-loop μ-loop
 sub-start c =
     let o = c .before .before .before .before .before in
     omega (arith, o .pre .0 .lim .n4096)
-
-mul-path : tie.Need-mul-path Inv-loop μ-loop
-mul-path c = search needs
 
 slice-write-path : tie.Need-slice-write-path Inv-loop μ-loop
 slice-write-path c =
     let turn = c .before .before in
     let o = turn .before .before .before in
     omega (arith, o .pre .0 .lim .n4096, turn .loop .inv .3)
-
-enum-told : tie.Need-enum-told Inv-loop μ-loop
-enum-told c = search needs
-
-lost-requires-2 : tie.Need-lost-requires-2 Inv-loop μ-loop
-lost-requires-2 c κs = search needs
 
 same-length-2 : tie.Need-same-length-2 Inv-loop μ-loop
 same-length-2 c =
@@ -76,12 +55,6 @@ returns-2 c =
     let few = o .pre .0 .lim .n4096 in
     lost-leads _ _ _ (c .lost2 .ensures) (simp length-set (turn .loop .inv .3)) (track-lost (a .head) (now (a .card)) (a .key) (turn .loop .reads) (turn .loop .b) (turn .loop .header) (turn .loop .path) _ _ (omega arith) (omega (arith, few)) (turn .loop .inv .3) (found .search .ensures) (turn .loop .inv .4) (c .before .enum-told .given .1))
 
-enum-known-way : tie.Need-enum-known-way Inv-loop μ-loop
-enum-known-way c = search needs
-
-loop-less : tie.Need-loop-less Inv-loop μ-loop
-loop-less c = search needs
-
 loop-again : tie.Need-loop-again Inv-loop μ-loop
 loop-again c =
     let found = c .before .before .before in
@@ -91,9 +64,6 @@ loop-again c =
     let few = o .pre .0 .lim .n4096 in
     let inside = down-inside (a .head) (now (a .card)) (a .key) 4294967295 (turn .loop .b) (turn .loop .header) _ _ (found .search .ensures) (c .before .way .given .1) in
     (search needs, inside .0, inside .1, simp length-set (turn .loop .inv .3), track-down (a .head) (now (a .card)) (a .key) (turn .loop .reads) (turn .loop .b) (turn .loop .header) (turn .loop .path) _ _ (omega arith) (omega (arith, few)) (turn .loop .inv .3) (found .search .ensures) (turn .loop .inv .4) _ (c .before .way .given .1))
-
-enum-told-2 : tie.Need-enum-told-2 Inv-loop μ-loop
-enum-told-2 c = search needs
 
 same-length-3 : tie.Need-same-length-3 Inv-loop μ-loop
 same-length-3 c =
@@ -109,9 +79,6 @@ returns-3 c =
     let a = o .args in
     let few = o .pre .0 .lim .n4096 in
     came-leads (4096 - (turn .loop .reads + 1)) _ _ _ (simp length-set (turn .loop .inv .3)) (omega arith) (track-absent (a .head) (now (a .card)) (a .key) (turn .loop .reads) (turn .loop .b) (turn .loop .header) (turn .loop .path) _ _ (omega arith) (omega (arith, few)) (turn .loop .inv .3) (found .search .ensures) (turn .loop .inv .4) (c .enum-told2 .given .1))
-
-enum-known-way-2 : tie.Need-enum-known-way-2 Inv-loop μ-loop
-enum-known-way-2 c = search needs
 
 same-length-4 : tie.Need-same-length-4 Inv-loop μ-loop
 same-length-4 c =
@@ -131,28 +98,7 @@ returns-4 c =
 pub descend-spec : {M : Type 1} → statement M
 descend-spec =
     tie.close
-    (tie.spec
-    Inv-loop
-    μ-loop
-    loop-holds
-    lost-requires
-    same-length
-    returns
-    search-requires
-    add-reads
-    sub-start
-    mul-path
-    slice-write-path
-    enum-told
-    lost-requires-2
-    same-length-2
-    returns-2
-    enum-known-way
-    loop-less
-    loop-again
-    enum-told-2
-    same-length-3
-    returns-3
-    enum-known-way-2
-    same-length-4
-    returns-4)
+    (tie.spec Inv-loop μ-loop loop-holds (λ c κs. search needs) (λ c. search needs) returns (λ c κs. search needs)
+    (λ c. search needs) sub-start (λ c. search needs) slice-write-path (λ c. search needs) (λ c κs. search needs)
+    same-length-2 returns-2 (λ c. search needs) (λ c. search needs) loop-again (λ c. search needs) same-length-3
+    returns-3 (λ c. search needs) same-length-4 returns-4)

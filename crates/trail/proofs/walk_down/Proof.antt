@@ -8,15 +8,6 @@ use Rattle.trail.proofs.Tracks.{lost-leads, no-root, hit-from}
 use Rattle.trail.proofs.walk_down.Statement.{statement}
 use Rattle.trail.proofs.walk_down.Tie as tie
 
-find-root-requires : tie.Need-find-root-requires
-find-root-requires c κs = search needs
-
-enum-known-found : tie.Need-enum-known-found
-enum-known-found c = search needs
-
-lost-requires : tie.Need-lost-requires
-lost-requires c κs = search needs
-
 returns : tie.Need-returns
 returns c =
     let at-find-root = c .before .before in
@@ -34,9 +25,6 @@ descend-requires c κs =
     let inside = root-found n (now (o .args .card)) 4294967295 1 n _ (sym (at-find-root .find-root .ensures) ∙ at-found .found .given .1) in
     (o .pre .0, inside .0, inside .1, o .pre .1)
 
-same-length : tie.Need-same-length
-same-length c = search needs
-
 returns-2 : tie.Need-returns-2
 returns-2 c =
     let at-descend = c .before .before in
@@ -52,11 +40,5 @@ returns-2 c =
 pub walk-down-spec : {M : Type 1} → statement M
 walk-down-spec =
     tie.close
-    (tie.spec
-    find-root-requires
-    enum-known-found
-    lost-requires
-    returns
-    descend-requires
-    same-length
-    returns-2)
+    (tie.spec (λ c κs. search needs) (λ c. search needs) (λ c κs. search needs) returns descend-requires
+    (λ c. search needs) returns-2)

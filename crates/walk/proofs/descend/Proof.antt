@@ -18,32 +18,14 @@ Inv-loop card head root key stamp n b₀ header₀ reads₀ b header reads =
 abbrev μ-loop : tie.MeasureT-loop
 μ-loop card head root key stamp n b₀ header₀ reads₀ b header reads = head .n - reads
 
-cast-n : tie.Need-cast-n Inv-loop μ-loop
-cast-n c = search needs
-
 loop-holds : tie.Need-loop-holds Inv-loop μ-loop
 loop-holds c = (search needs, search needs, search needs, rw sub-zero)
-
-trip-of-requires : tie.Need-trip-of-requires Inv-loop μ-loop
-trip-of-requires c κs = search needs
 
 returns : tie.Need-returns Inv-loop μ-loop
 returns c =
     let turn = c .before .before in
     let a = turn .before .before .before .args in
     rw (c .trip-of .ensures) (walk-out (a .head) (now (a .card)) (a .key) (a .stamp) (turn .loop .reads) _ _ _ (c .before .if1 .taken) (turn .loop .inv .3))
-
-search-requires : tie.Need-search-requires Inv-loop μ-loop
-search-requires c κs = search needs
-
-add-count : tie.Need-add-count Inv-loop μ-loop
-add-count c = search needs
-
-enum-told : tie.Need-enum-told Inv-loop μ-loop
-enum-told c = search needs
-
-trip-of-requires-2 : tie.Need-trip-of-requires-2 Inv-loop μ-loop
-trip-of-requires-2 c κs = search needs
 
 -- what the bucket's search says of the whole walk
 turn-at : (q : tie.After-search Inv-loop μ-loop) →
@@ -61,12 +43,6 @@ returns-2 : tie.Need-returns-2 Inv-loop μ-loop
 unfolding onward
 returns-2 c = rw (c .trip-of2 .ensures) (rw (c .before .enum-told .given .1) at (turn-at (c .before .before .before)))
 
-enum-known-way : tie.Need-enum-known-way Inv-loop μ-loop
-enum-known-way c = search needs
-
-loop-less : tie.Need-loop-less Inv-loop μ-loop
-loop-less c = search needs
-
 loop-again : tie.Need-loop-again Inv-loop μ-loop
 unfolding onward
 loop-again c =
@@ -76,21 +52,9 @@ loop-again c =
     let inside = down-inside (a .head) (now (a .card)) (a .key) (a .stamp) (turn .loop .b) (turn .loop .header) _ _ (found .search .ensures) (c .before .way .given .1) in
     (search needs, inside .0, inside .1, rw (c .before .way .given .1) at (turn-at found))
 
-enum-told-2 : tie.Need-enum-told-2 Inv-loop μ-loop
-enum-told-2 c = search needs
-
-trip-of-requires-3 : tie.Need-trip-of-requires-3 Inv-loop μ-loop
-trip-of-requires-3 c κs = search needs
-
 returns-3 : tie.Need-returns-3 Inv-loop μ-loop
 unfolding onward
 returns-3 c = rw (c .trip-of3 .ensures) (rw (c .before .enum-told2 .given .1) at (turn-at (c .before .before .before)))
-
-enum-known-way-2 : tie.Need-enum-known-way-2 Inv-loop μ-loop
-enum-known-way-2 c = search needs
-
-trip-of-requires-4 : tie.Need-trip-of-requires-4 Inv-loop μ-loop
-trip-of-requires-4 c κs = search needs
 
 returns-4 : tie.Need-returns-4 Inv-loop μ-loop
 unfolding onward
@@ -99,24 +63,6 @@ returns-4 c = rw (c .trip-of4 .ensures) (rw (c .before .before .way2 .given .1) 
 pub descend-spec : {M : Type 1} → statement M
 descend-spec =
     tie.close
-    (tie.spec
-    Inv-loop
-    μ-loop
-    cast-n
-    loop-holds
-    trip-of-requires
-    returns
-    search-requires
-    add-count
-    enum-told
-    trip-of-requires-2
-    returns-2
-    enum-known-way
-    loop-less
-    loop-again
-    enum-told-2
-    trip-of-requires-3
-    returns-3
-    enum-known-way-2
-    trip-of-requires-4
-    returns-4)
+    (tie.spec Inv-loop μ-loop (λ c. search needs) loop-holds (λ c κs. search needs) returns (λ c κs. search needs)
+    (λ c. search needs) (λ c. search needs) (λ c κs. search needs) returns-2 (λ c. search needs) (λ c. search needs)
+    loop-again (λ c. search needs) (λ c κs. search needs) returns-3 (λ c. search needs) (λ c κs. search needs) returns-4)

@@ -7,25 +7,10 @@ use borrow.Author.Needs.{needs}
 use Rattle.walk.proofs.look.Statement.{statement}
 use Rattle.walk.proofs.look.Tie as tie
 
-read-head-requires : tie.Need-read-head-requires
-read-head-requires c κs = search needs
-
-enum-known-layout : tie.Need-enum-known-layout
-enum-known-layout c = search needs
-
-enum-told : tie.Need-enum-told
-enum-told c = search needs
-
-refusal-requires : tie.Need-refusal-requires
-refusal-requires c κs = search needs
-
 returns : tie.Need-returns
 returns c =
     let read = c .before .before .before in
     c .refusal .ensures ∙ look-broken (now (read .before .before .args .card)) _ _ (broken-none _ (sym (read .read-head .ensures) ∙ c .before .enum-told .given .1))
-
-refusal-requires-2 : tie.Need-refusal-requires-2
-refusal-requires-2 c κs = search needs
 
 returns-2 : tie.Need-returns-2
 returns-2 c =
@@ -40,9 +25,6 @@ walk-requires c κs =
     let read = sound .before .before in
     shape-of _ _ (sound-some _ _ (sym (read .read-head .ensures) ∙ sound .layout .given .1))
 
-tell-requires : tie.Need-tell-requires
-tell-requires c κs = search needs
-
 returns-3 : tie.Need-returns-3
 returns-3 c =
     let sound = c .before .before .before .before in
@@ -53,14 +35,5 @@ returns-3 c =
 pub look-spec : {M : Type 1} → statement M
 look-spec =
     tie.close
-    (tie.spec
-    read-head-requires
-    enum-known-layout
-    enum-told
-    refusal-requires
-    returns
-    refusal-requires-2
-    returns-2
-    walk-requires
-    tell-requires
-    returns-3)
+    (tie.spec (λ c κs. search needs) (λ c. search needs) (λ c. search needs) (λ c κs. search needs) returns
+    (λ c κs. search needs) returns-2 walk-requires (λ c κs. search needs) returns-3)

@@ -8,18 +8,6 @@ use borrow.Author.Needs.{needs}
 use Rattle.walk.proofs.tell.Statement.{statement}
 use Rattle.walk.proofs.tell.Tie as tie
 
-enum-told : tie.Need-enum-told
-enum-told c = search needs
-
-refusal-requires : tie.Need-refusal-requires
-refusal-requires c κs = search needs
-
-enum-told-2 : tie.Need-enum-told-2
-enum-told-2 c = search needs
-
-enum-known-found : tie.Need-enum-known-found
-enum-known-found c = search needs
-
 returns : tie.Need-returns
 unfolding told sheet standing isPost
 returns c = rw (c .before .before .before .found .given .1, eq-eqb _ _ (c .if1 .taken))
@@ -39,12 +27,5 @@ returns-4 c = rw (c .before .before .before .found .given .1, ne-eqb _ _ (c .if1
 pub tell-spec : {M : Type 1} → statement M
 tell-spec =
     tie.close
-    (tie.spec
-    enum-told
-    refusal-requires
-    enum-told-2
-    enum-known-found
-    returns
-    returns-2
-    returns-3
-    returns-4)
+    (tie.spec (λ c. search needs) (λ c κs. search needs) (λ c. search needs) (λ c. search needs) returns returns-2
+    returns-3 returns-4)

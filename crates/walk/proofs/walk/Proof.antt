@@ -8,15 +8,6 @@ use borrow.Author.Needs.{needs}
 use Rattle.walk.proofs.walk.Statement.{statement}
 use Rattle.walk.proofs.walk.Tie as tie
 
-find-root-requires : tie.Need-find-root-requires
-find-root-requires c κs = search needs
-
-enum-known-found : tie.Need-enum-known-found
-enum-known-found c = search needs
-
-trip-of-requires : tie.Need-trip-of-requires
-trip-of-requires c κs = search needs
-
 returns : tie.Need-returns
 returns c = rw (c .trip-of .ensures, ← c .before .before .find-root .ensures) (no-root _ _ _ _ _ (c .before .match .keys2))
 
@@ -34,4 +25,4 @@ returns-2 c = rw (← c .before .before .before .before .find-root .ensures, c .
 pub walk-spec : {M : Type 1} → statement M
 walk-spec =
     tie.close
-    (tie.spec find-root-requires enum-known-found trip-of-requires returns descend-requires returns-2)
+    (tie.spec (λ c κs. search needs) (λ c. search needs) (λ c κs. search needs) returns descend-requires returns-2)

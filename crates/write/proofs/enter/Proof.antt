@@ -12,21 +12,6 @@ use Rattle.write.proofs.Codes.{no-head, no-bib, stale, goes-in}
 use Rattle.write.proofs.enter.Statement.{statement}
 use Rattle.write.proofs.enter.Tie as tie
 
-read-head-requires : tie.Need-read-head-requires
-read-head-requires c κs = search needs
-
-enum-known-layout : tie.Need-enum-known-layout
-enum-known-layout c = search needs
-
-enum-told : tie.Need-enum-told
-enum-told c = search needs
-
-refusal-requires : tie.Need-refusal-requires
-refusal-requires c κs = search needs
-
-same-length : tie.Need-same-length
-same-length c = search needs
-
 returns : tie.Need-returns
 returns c =
     let at-read-head = c .before .before .before in
@@ -35,12 +20,6 @@ returns c =
     let none = broken-none _ (sym (at-read-head .read-head .ensures) ∙ c .before .enum-told .given .1) in
     let f = refuses (plan (a .card .now) (a .e)) (a .card .now) _ 1 (no-head (a .card .now) (a .e) none) (c .refusal .ensures) in
     (f .answer, f .bytes)
-
-refusal-requires-2 : tie.Need-refusal-requires-2
-refusal-requires-2 c κs = search needs
-
-same-length-2 : tie.Need-same-length-2
-same-length-2 c = search needs
 
 returns-2 : tie.Need-returns-2
 returns-2 c =
@@ -59,12 +38,6 @@ survey-requires c κs =
     let o = at-read-head .before .before .before in
     let hq = sound-some _ _ (sym (at-read-head .read-head .ensures) ∙ at-layout .layout .given .1) in
     shape-of (o .args .card .now) _ hq
-
-refusal-requires-3 : tie.Need-refusal-requires-3
-refusal-requires-3 c κs = search needs
-
-same-length-3 : tie.Need-same-length-3
-same-length-3 c = search needs
 
 returns-3 : tie.Need-returns-3
 unfolding surveyOf stampOn
@@ -90,9 +63,6 @@ insert-requires c κs =
     let hq = sound-some _ _ (sym (at-read-head .read-head .ensures) ∙ at-layout .layout .given .1) in
     (hq, o .pre, ap (λ (y : Area). y .used) (at-survey .survey .ensures))
 
-same-length-4 : tie.Need-same-length-4
-same-length-4 c = search needs
-
 returns-4 : tie.Need-returns-4
 unfolding surveyOf stampOn
 returns-4 c =
@@ -113,20 +83,6 @@ returns-4 c =
 pub enter-spec : {M : Type 1} → statement M
 enter-spec =
     tie.close
-    (tie.spec
-    read-head-requires
-    enum-known-layout
-    enum-told
-    refusal-requires
-    same-length
-    returns
-    refusal-requires-2
-    same-length-2
-    returns-2
-    survey-requires
-    refusal-requires-3
-    same-length-3
-    returns-3
-    insert-requires
-    same-length-4
-    returns-4)
+    (tie.spec (λ c κs. search needs) (λ c. search needs) (λ c. search needs) (λ c κs. search needs) (λ c. search needs)
+    returns (λ c κs. search needs) (λ c. search needs) returns-2 survey-requires (λ c κs. search needs)
+    (λ c. search needs) returns-3 insert-requires (λ c. search needs) returns-4)

@@ -12,20 +12,8 @@ use Rattle.write.proofs.Codes.{at-refused, at-goes-on, at-came, came-pa
 use Rattle.write.proofs.insert.Statement.{statement}
 use Rattle.write.proofs.insert.Tie as tie
 
-slice-aggregate-walk-down : tie.Need-slice-aggregate-walk-down
-slice-aggregate-walk-down c = search needs
-
 walk-down-requires : tie.Need-walk-down-requires
 walk-down-requires c κs = let o = c .before .before .before in (shape-of (o .args .card .now) (o .args .head) (o .pre .0), search needs)
-
-objection-requires : tie.Need-objection-requires
-objection-requires c κs = search needs
-
-refusal-requires : tie.Need-refusal-requires
-refusal-requires c κs = search needs
-
-same-length : tie.Need-same-length
-same-length c = search needs
 
 returns : tie.Need-returns
 returns c =
@@ -39,9 +27,6 @@ returns c =
     let f = refuses (planAt (a .head) (a .card .now) (a .e) (walk (a .head) (a .card .now) latest (a .e .key))) (a .card .now) _ _ (at-refused (a .head) (a .card .now) (a .e) _ _ is (at-objection .objection .ensures) (c .before .if1 .taken)) (c .refusal .ensures) in
     (f .answer, f .bytes)
 
-slice-aggregate-lay : tie.Need-slice-aggregate-lay
-slice-aggregate-lay c = search needs
-
 lay-requires : tie.Need-lay-requires
 lay-requires c κs =
     let at-if1 = c .before .before in
@@ -54,9 +39,6 @@ lay-requires c κs =
     let is = lead .found ∙ ap (λ (y : Track). y .found) tw in
     let came = at-came (a .head) (a .card .now) (a .e) _ _ is (at-objection .objection .ensures) (at-if1 .if1 .left) in
     ((o .pre .0, came, o .pre .1, o .pre .2), (lead .levels ∙ ap (λ (y : Track). y .path) tw ∙ came-path (a .head) (a .card .now) (a .e .key) came, omega (arith, lead .most, lead .long), lead .long))
-
-same-length-2 : tie.Need-same-length-2
-same-length-2 c = search needs
 
 returns-2 : tie.Need-returns-2
 returns-2 c =
@@ -76,14 +58,5 @@ returns-2 c =
 pub insert-spec : {M : Type 1} → statement M
 insert-spec =
     tie.close
-    (tie.spec
-    slice-aggregate-walk-down
-    walk-down-requires
-    objection-requires
-    refusal-requires
-    same-length
-    returns
-    slice-aggregate-lay
-    lay-requires
-    same-length-2
-    returns-2)
+    (tie.spec (λ c. search needs) walk-down-requires (λ c κs. search needs) (λ c κs. search needs) (λ c. search needs)
+    returns (λ c. search needs) lay-requires (λ c. search needs) returns-2)

@@ -46,12 +46,6 @@ too-full-requires c κs =
     let most = used-within (a .head) (a .card .now) (a .head .n) in
     (rd .shape, rd .logs)
 
-refusal-requires : tie.Need-refusal-requires
-refusal-requires c κs = search needs
-
-same-length : tie.Need-same-length
-same-length c = search needs
-
 returns : tie.Need-returns
 returns c =
     let at-too-full = c .before .before in
@@ -84,12 +78,6 @@ rise-requires c κs =
     let lim = top-within (a .head) (a .card .now) (o .pre .0 .0) (a .e) (walked (a .head) (a .card .now) (a .e .key)) (o .pre .0 .1) (sym t ∙ c .before .if1 .left) in
     ((rd, (o .pre .0 .2, tt), o .pre .1 .1), rw (o .pre .1 .0, o .pre .0 .3) lim)
 
-refusal-requires-2 : tie.Need-refusal-requires-2
-refusal-requires-2 c κs = search needs
-
-same-length-2 : tie.Need-same-length-2
-same-length-2 c = search needs
-
 returns-2 : tie.Need-returns-2
 returns-2 c =
     let at-rise = c .before .before .before in
@@ -113,14 +101,5 @@ returns-2 c =
 pub lay-spec : {M : Type 1} → statement M
 lay-spec =
     tie.close
-    (tie.spec
-    add-fresh
-    count-requires
-    too-full-requires
-    refusal-requires
-    same-length
-    returns
-    rise-requires
-    refusal-requires-2
-    same-length-2
-    returns-2)
+    (tie.spec add-fresh count-requires too-full-requires (λ c κs. search needs) (λ c. search needs) returns
+    rise-requires (λ c κs. search needs) (λ c. search needs) returns-2)

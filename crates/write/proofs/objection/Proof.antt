@@ -5,18 +5,9 @@ use Rattle.write.specs.Plans.{codeOf}
 use Rattle.write.proofs.objection.Statement.{statement}
 use Rattle.write.proofs.objection.Tie as tie
 
-enum-told : tie.Need-enum-told
-enum-told c = search needs
-
-enum-told-2 : tie.Need-enum-told-2
-enum-told-2 c = search needs
-
 returns : tie.Need-returns
 unfolding codeOf
 returns c = rw (c .before .enum-told2 .given .1, eq-eqb _ _ (c .if1 .taken))
-
-enum-known-found : tie.Need-enum-known-found
-enum-known-found c = search needs
 
 returns-2 : tie.Need-returns-2
 unfolding codeOf
@@ -47,13 +38,5 @@ returns-6 c =
 pub objection-spec : {M : Type 1} → statement M
 objection-spec =
     tie.close
-    (tie.spec
-    enum-told
-    enum-told-2
-    returns
-    enum-known-found
-    returns-2
-    returns-3
-    returns-4
-    returns-5
-    returns-6)
+    (tie.spec (λ c. search needs) (λ c. search needs) returns (λ c. search needs) returns-2 returns-3 returns-4
+    returns-5 returns-6)

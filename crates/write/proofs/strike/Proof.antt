@@ -4,15 +4,9 @@ use Rattle.rules.specs.Write.{strike}
 use Rattle.write.proofs.strike.Statement.{statement}
 use Rattle.write.proofs.strike.Tie as tie
 
-enter-requires : tie.Need-enter-requires
-enter-requires c κs = search needs
-
-same-length : tie.Need-same-length
-same-length c = search needs
-
 returns : tie.Need-returns
 unfolding strike
 returns c = c .before .before .enter .ensures
 
 pub strike-spec : {M : Type 1} → statement M
-strike-spec = tie.close (tie.spec enter-requires same-length returns)
+strike-spec = tie.close (tie.spec (λ c κs. search needs) (λ c. search needs) returns)

@@ -9,27 +9,6 @@ use borrow.Author.Needs.{needs}
 use Rattle.writer.proofs.lend.Statement.{statement}
 use Rattle.writer.proofs.lend.Tie as tie
 
-mul-a : tie.Need-mul-a
-mul-a c = search needs
-
-add-write-sector : tie.Need-add-write-sector
-add-write-sector c = search needs
-
-sub-write-sector : tie.Need-sub-write-sector
-sub-write-sector c = search needs
-
-part-write-sector-start : tie.Need-part-write-sector-start
-part-write-sector-start c = search needs
-
-part-write-sector-end : tie.Need-part-write-sector-end
-part-write-sector-end c = search needs
-
-write-sector-requires : tie.Need-write-sector-requires
-write-sector-requires c κs = search needs
-
-same-length : tie.Need-same-length
-same-length c = search needs
-
 returns : tie.Need-returns
 unfolding put
 returns c =
@@ -42,12 +21,5 @@ returns c =
 pub lend-spec : {M : Type 1} → statement M
 lend-spec =
     tie.close
-    (tie.spec
-    mul-a
-    add-write-sector
-    sub-write-sector
-    part-write-sector-start
-    part-write-sector-end
-    write-sector-requires
-    same-length
-    returns)
+    (tie.spec (λ c. search needs) (λ c. search needs) (λ c. search needs) (λ c. search needs) (λ c. search needs)
+    (λ c κs. search needs) (λ c. search needs) returns)

@@ -6,12 +6,6 @@ use borrow.Author.Needs.{needs}
 use Rattle.writer.proofs.write_entry.Statement.{statement}
 use Rattle.writer.proofs.write_entry.Tie as tie
 
-lend-requires : tie.Need-lend-requires
-lend-requires c κs = search needs
-
-same-length : tie.Need-same-length
-same-length c = search needs
-
 returns : tie.Need-returns
 returns c =
     let at-lend = c .before .before in
@@ -20,4 +14,4 @@ returns c =
     at-lend .lend .ensures ∙ ap (put (a .card .now) (a .i)) (entry-words (a .e) (start .pre .1))
 
 pub write-entry-spec : {M : Type 1} → statement M
-write-entry-spec = tie.close (tie.spec lend-requires same-length returns)
+write-entry-spec = tie.close (tie.spec (λ c κs. search needs) (λ c. search needs) returns)

@@ -6,36 +6,6 @@ use borrow.Author.Needs.{needs}
 use Rattle.writer.proofs.write_head.Statement.{statement}
 use Rattle.writer.proofs.write_head.Tie as tie
 
-mul-first : tie.Need-mul-first
-mul-first c = search needs
-
-add-first : tie.Need-add-first
-add-first c = search needs
-
-mul-first-2 : tie.Need-mul-first-2
-mul-first-2 c = search needs
-
-add-first-2 : tie.Need-add-first-2
-add-first-2 c = search needs
-
-mul-first-3 : tie.Need-mul-first-3
-mul-first-3 c = search needs
-
-add-first-3 : tie.Need-add-first-3
-add-first-3 c = search needs
-
-cast-lend : tie.Need-cast-lend
-cast-lend c = search needs
-
-cast-lend-2 : tie.Need-cast-lend-2
-cast-lend-2 c = search needs
-
-lend-requires : tie.Need-lend-requires
-lend-requires c κs = search needs
-
-same-length : tie.Need-same-length
-same-length c = search needs
-
 returns : tie.Need-returns
 returns c =
     let at-lend = c .before .before in
@@ -45,15 +15,5 @@ returns c =
 pub write-head-spec : {M : Type 1} → statement M
 write-head-spec =
     tie.close
-    (tie.spec
-    mul-first
-    add-first
-    mul-first-2
-    add-first-2
-    mul-first-3
-    add-first-3
-    cast-lend
-    cast-lend-2
-    lend-requires
-    same-length
-    returns)
+    (tie.spec (λ c. search needs) (λ c. search needs) (λ c. search needs) (λ c. search needs) (λ c. search needs)
+    (λ c. search needs) (λ c. search needs) (λ c. search needs) (λ c κs. search needs) (λ c. search needs) returns)

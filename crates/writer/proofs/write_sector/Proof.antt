@@ -4,57 +4,6 @@ use borrow.Author.Needs.{needs}
 use Rattle.writer.proofs.write_sector.Statement.{statement}
 use Rattle.writer.proofs.write_sector.Tie as tie
 
-sub-write-word : tie.Need-sub-write-word
-sub-write-word c = search needs
-
-part-write-word-start : tie.Need-part-write-word-start
-part-write-word-start c = search needs
-
-part-write-word-end : tie.Need-part-write-word-end
-part-write-word-end c = search needs
-
-write-word-requires : tie.Need-write-word-requires
-write-word-requires c κs = search needs
-
-sub-write-word-2 : tie.Need-sub-write-word-2
-sub-write-word-2 c = search needs
-
-part-write-word-start-2 : tie.Need-part-write-word-start-2
-part-write-word-start-2 c = search needs
-
-part-write-word-end-2 : tie.Need-part-write-word-end-2
-part-write-word-end-2 c = search needs
-
-write-word-requires-2 : tie.Need-write-word-requires-2
-write-word-requires-2 c κs = search needs
-
-sub-write-word-3 : tie.Need-sub-write-word-3
-sub-write-word-3 c = search needs
-
-part-write-word-start-3 : tie.Need-part-write-word-start-3
-part-write-word-start-3 c = search needs
-
-part-write-word-end-3 : tie.Need-part-write-word-end-3
-part-write-word-end-3 c = search needs
-
-write-word-requires-3 : tie.Need-write-word-requires-3
-write-word-requires-3 c κs = search needs
-
-sub-write-word-4 : tie.Need-sub-write-word-4
-sub-write-word-4 c = search needs
-
-part-write-word-start-4 : tie.Need-part-write-word-start-4
-part-write-word-start-4 c = search needs
-
-part-write-word-end-4 : tie.Need-part-write-word-end-4
-part-write-word-end-4 c = search needs
-
-write-word-requires-4 : tie.Need-write-word-requires-4
-write-word-requires-4 c κs = search needs
-
-same-length : tie.Need-same-length
-same-length c = search needs
-
 returns : tie.Need-returns
 returns c =
     let at-write-word4 = c .before .before in
@@ -71,22 +20,7 @@ returns c =
 pub write-sector-spec : {M : Type 1} → statement M
 write-sector-spec =
     tie.close
-    (tie.spec
-    sub-write-word
-    part-write-word-start
-    part-write-word-end
-    write-word-requires
-    sub-write-word-2
-    part-write-word-start-2
-    part-write-word-end-2
-    write-word-requires-2
-    sub-write-word-3
-    part-write-word-start-3
-    part-write-word-end-3
-    write-word-requires-3
-    sub-write-word-4
-    part-write-word-start-4
-    part-write-word-end-4
-    write-word-requires-4
-    same-length
-    returns)
+    (tie.spec (λ c. search needs) (λ c. search needs) (λ c. search needs) (λ c κs. search needs) (λ c. search needs)
+    (λ c. search needs) (λ c. search needs) (λ c κs. search needs) (λ c. search needs) (λ c. search needs)
+    (λ c. search needs) (λ c κs. search needs) (λ c. search needs) (λ c. search needs) (λ c. search needs)
+    (λ c κs. search needs) (λ c. search needs) returns)

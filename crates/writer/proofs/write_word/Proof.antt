@@ -5,33 +5,6 @@ use borrow.Author.Needs.{needs}
 use Rattle.writer.proofs.write_word.Statement.{statement}
 use Rattle.writer.proofs.write_word.Tie as tie
 
-cast-part : tie.Need-cast-part
-cast-part c = search needs
-
-slice-write-part : tie.Need-slice-write-part
-slice-write-part c = search needs
-
-cast-part-2 : tie.Need-cast-part-2
-cast-part-2 c = search needs
-
-slice-write-part-2 : tie.Need-slice-write-part-2
-slice-write-part-2 c = search needs
-
-cast-part-3 : tie.Need-cast-part-3
-cast-part-3 c = search needs
-
-slice-write-part-3 : tie.Need-slice-write-part-3
-slice-write-part-3 c = search needs
-
-cast-part-4 : tie.Need-cast-part-4
-cast-part-4 c = search needs
-
-slice-write-part-4 : tie.Need-slice-write-part-4
-slice-write-part-4 c = search needs
-
-same-length : tie.Need-same-length
-same-length c = search needs
-
 returns : tie.Need-returns
 unfolding le4
 returns c = stored-all (le4 (c .args .x)) (c .args .part .now) (c .pre)
@@ -39,14 +12,5 @@ returns c = stored-all (le4 (c .args .x)) (c .args .part .now) (c .pre)
 pub write-word-spec : {M : Type 1} → statement M
 write-word-spec =
     tie.close
-    (tie.spec
-    cast-part
-    slice-write-part
-    cast-part-2
-    slice-write-part-2
-    cast-part-3
-    slice-write-part-3
-    cast-part-4
-    slice-write-part-4
-    same-length
-    returns)
+    (tie.spec (λ c. search needs) (λ c. search needs) (λ c. search needs) (λ c. search needs) (λ c. search needs)
+    (λ c. search needs) (λ c. search needs) (λ c. search needs) (λ c. search needs) returns)

@@ -5,9 +5,6 @@ use borrow.Author.Needs.{needs}
 use Rattle.bucket.proofs.picks.below.Statement.{statement}
 use Rattle.bucket.proofs.picks.below.Tie as tie
 
-over-requires : tie.Need-over-requires
-over-requires c κs = search needs
-
 returns : tie.Need-returns
 unfolding below
 returns c = search (needs, le-leb, c .over .ensures)
@@ -17,4 +14,4 @@ unfolding below
 returns-2 c = search (needs, lt-leb)
 
 pub below-spec : {M : Type 1} → statement M
-below-spec = tie.close (tie.spec over-requires returns returns-2)
+below-spec = tie.close (tie.spec (λ c κs. search needs) returns returns-2)

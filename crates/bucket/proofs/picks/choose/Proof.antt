@@ -4,19 +4,13 @@ use borrow.Author.Needs.{needs}
 use Rattle.bucket.proofs.picks.choose.Statement.{statement}
 use Rattle.bucket.proofs.picks.choose.Tie as tie
 
-below-requires : tie.Need-below-requires
-below-requires c κs = search needs
-
 returns : tie.Need-returns
 unfolding choose
 returns c = rw (c .before .if1 .taken) (c .below .ensures)
-
-same-requires : tie.Need-same-requires
-same-requires c κs = search needs
 
 returns-2 : tie.Need-returns-2
 unfolding choose
 returns-2 c = rw (c .before .if1 .left) (c .same .ensures)
 
 pub choose-spec : {M : Type 1} → statement M
-choose-spec = tie.close (tie.spec below-requires returns same-requires returns-2)
+choose-spec = tie.close (tie.spec (λ c κs. search needs) returns (λ c κs. search needs) returns-2)

@@ -9,9 +9,6 @@ returns : tie.Need-returns
 unfolding fits isRoot
 returns c = rw (c .before .if1 .taken)
 
-kind-fits-requires : tie.Need-kind-fits-requires
-kind-fits-requires c κs = search needs
-
 returns-2 : tie.Need-returns-2
 unfolding fits
 returns-2 c =
@@ -23,4 +20,4 @@ unfolding fits
 returns-3 c = rw (c .before .before .if1 .left, ← c .before .kind-fits .ensures, c .if2 .left)
 
 pub fits-spec : {M : Type 1} → statement M
-fits-spec = tie.close (tie.spec returns kind-fits-requires returns-2 returns-3)
+fits-spec = tie.close (tie.spec returns (λ c κs. search needs) returns-2 returns-3)

@@ -9,12 +9,9 @@ returns : tie.Need-returns
 unfolding kindFits isIndex
 returns c = rw (c .before .if1 .taken)
 
-is-data-requires : tie.Need-is-data-requires
-is-data-requires c κs = search needs
-
 returns-2 : tie.Need-returns-2
 unfolding kindFits
 returns-2 c = rw (c .before .if1 .left) (c .is-data .ensures)
 
 pub kind-fits-spec : {M : Type 1} → statement M
-kind-fits-spec = tie.close (tie.spec returns is-data-requires returns-2)
+kind-fits-spec = tie.close (tie.spec returns (λ c κs. search needs) returns-2)

@@ -5,15 +5,6 @@ use borrow.Author.Needs.{needs}
 use Rattle.bucket.proofs.picks.over.Statement.{statement}
 use Rattle.bucket.proofs.picks.over.Tie as tie
 
-enum-told : tie.Need-enum-told
-enum-told c = search needs
-
-enum-told-2 : tie.Need-enum-told-2
-enum-told-2 c = search needs
-
-enum-known-best : tie.Need-enum-known-best
-enum-known-best c = search needs
-
 returns : tie.Need-returns
 unfolding over
 returns c = search (needs, le-leb, c .before .before .before .before .best .given .1)
@@ -33,4 +24,4 @@ returns-4 c = search (needs, lt-leb, c .before .before .before .before .best .gi
 pub over-spec : {M : Type 1} → statement M
 over-spec =
     tie.close
-    (tie.spec enum-told enum-told-2 enum-known-best returns returns-2 returns-3 returns-4)
+    (tie.spec (λ c. search needs) (λ c. search needs) (λ c. search needs) returns returns-2 returns-3 returns-4)

@@ -8,12 +8,9 @@ returns : tie.Need-returns
 unfolding prefers
 returns c = rw (c .if1 .taken)
 
-choose-requires : tie.Need-choose-requires
-choose-requires c κs = search needs
-
 returns-2 : tie.Need-returns-2
 unfolding prefers
 returns-2 c = rw (c .before .if1 .left) (c .choose .ensures)
 
 pub prefers-spec : {M : Type 1} → statement M
-prefers-spec = tie.close (tie.spec returns choose-requires returns-2)
+prefers-spec = tie.close (tie.spec returns (λ c κs. search needs) returns-2)

@@ -5,9 +5,6 @@ use borrow.Author.Needs.{needs}
 use Rattle.bucket.proofs.picks.takes.Statement.{statement}
 use Rattle.bucket.proofs.picks.takes.Tie as tie
 
-prefers-requires : tie.Need-prefers-requires
-prefers-requires c κs = search needs
-
 returns : tie.Need-returns
 unfolding takes
 returns c = search (needs, le-leb, c .prefers .ensures)
@@ -17,4 +14,4 @@ unfolding takes
 returns-2 c = search (needs, lt-leb)
 
 pub takes-spec : {M : Type 1} → statement M
-takes-spec = tie.close (tie.spec prefers-requires returns returns-2)
+takes-spec = tie.close (tie.spec (λ c κs. search needs) returns returns-2)

@@ -13,18 +13,9 @@ unfolding wayOf
 lost true = refl
 lost false = refl
 
-enum-told : tie.Need-enum-told
-enum-told c = search needs
-
-enum-told-2 : tie.Need-enum-told-2
-enum-told-2 c = search needs
-
 returns : tie.Need-returns
 unfolding wayOf
 returns c = rw (c .before .enum-told2 .given .1, c .if1 .taken)
-
-enum-known-found : tie.Need-enum-known-found
-enum-known-found c = search needs
 
 returns-2 : tie.Need-returns-2
 unfolding wayOf
@@ -44,12 +35,5 @@ returns-5 c = rw (c .before .before .found .given .1, c .if2 .left)
 pub way-of-spec : {M : Type 1} → statement M
 way-of-spec =
     tie.close
-    (tie.spec
-    enum-told
-    enum-told-2
-    returns
-    enum-known-found
-    returns-2
-    returns-3
-    returns-4
+    (tie.spec (λ c. search needs) (λ c. search needs) returns (λ c. search needs) returns-2 returns-3 returns-4
     returns-5)

@@ -22,26 +22,8 @@ abbrev μ-loop : tie.MeasureT-loop
 loop-holds : tie.Need-loop-holds Inv-loop μ-loop
 loop-holds c = (search needs, refl)
 
-mul-a : tie.Need-mul-a Inv-loop μ-loop
-mul-a c = search needs
-
-add-e : tie.Need-add-e Inv-loop μ-loop
-add-e c = search needs
-
-sub-decode : tie.Need-sub-decode Inv-loop μ-loop
-sub-decode c = search needs
-
-part-decode-start : tie.Need-part-decode-start Inv-loop μ-loop
-part-decode-start c = search needs
-
-part-decode-end : tie.Need-part-decode-end Inv-loop μ-loop
-part-decode-end c = search needs
-
 decode-requires : tie.Need-decode-requires Inv-loop μ-loop
 decode-requires c κs = simp (length-take, length-drop) (omega arith)
-
-enum-known-s : tie.Need-enum-known-s Inv-loop μ-loop
-enum-known-s c = search needs
 
 -- what the sector read says of the whole pass
 turn-at : (q : tie.After-decode Inv-loop μ-loop) →
@@ -59,20 +41,11 @@ turn-at q =
 returns : tie.Need-returns Inv-loop μ-loop
 returns c = later-other _ _ _ _ (c .match .keys2) ∙ turn-at (c .before)
 
-is-copy-requires : tie.Need-is-copy-requires Inv-loop μ-loop
-is-copy-requires c κs = search needs
-
 returns-2 : tie.Need-returns-2 Inv-loop μ-loop
 unfolding later
 returns-2 c =
     let held = c .before .before .before in
     rw (held .s .given .1, copy-or, ← c .before .is-copy .ensures, c .if1 .taken) at (turn-at (held .before .before))
-
-add-i : tie.Need-add-i Inv-loop μ-loop
-add-i c = search needs
-
-loop-less : tie.Need-loop-less Inv-loop μ-loop
-loop-less c = search needs
 
 loop-again : tie.Need-loop-again Inv-loop μ-loop
 unfolding later
@@ -89,21 +62,6 @@ returns-3 c =
 pub comes-again-spec : {M : Type 1} → statement M
 comes-again-spec =
     tie.close
-    (tie.spec
-    Inv-loop
-    μ-loop
-    loop-holds
-    mul-a
-    add-e
-    sub-decode
-    part-decode-start
-    part-decode-end
-    decode-requires
-    enum-known-s
-    returns
-    is-copy-requires
-    returns-2
-    add-i
-    loop-less
-    loop-again
-    returns-3)
+    (tie.spec Inv-loop μ-loop loop-holds (λ c. search needs) (λ c. search needs) (λ c. search needs) (λ c. search needs)
+    (λ c. search needs) decode-requires (λ c. search needs) returns (λ c κs. search needs) returns-2 (λ c. search needs)
+    (λ c. search needs) loop-again returns-3)

@@ -4,12 +4,6 @@ use borrow.Author.Needs.{needs}
 use Rattle.next.proofs.asks.pick_next.Statement.{statement}
 use Rattle.next.proofs.asks.pick_next.Tie as tie
 
-is-candidate-requires : tie.Need-is-candidate-requires
-is-candidate-requires c κs = search needs
-
-comes-again-requires : tie.Need-comes-again-requires
-comes-again-requires c κs = search needs
-
 returns : tie.Need-returns
 returns c = rw (pick-next, ← c .before .before .before .is-candidate .ensures, c .before .before .if1 .taken, ← c .before .comes-again .ensures, c .if2 .taken)
 
@@ -21,4 +15,4 @@ returns-3 c = rw (pick-next, ← c .before .is-candidate .ensures, c .if1 .left)
 
 pub pick-next-spec : {M : Type 1} → statement M
 pick-next-spec =
-    tie.close (tie.spec is-candidate-requires comes-again-requires returns returns-2 returns-3)
+    tie.close (tie.spec (λ c κs. search needs) (λ c κs. search needs) returns returns-2 returns-3)

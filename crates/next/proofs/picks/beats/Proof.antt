@@ -4,15 +4,6 @@ use borrow.Author.Needs.{needs}
 use Rattle.next.proofs.picks.beats.Statement.{statement}
 use Rattle.next.proofs.picks.beats.Tie as tie
 
-enum-told : tie.Need-enum-told
-enum-told c = search needs
-
-enum-told-2 : tie.Need-enum-told-2
-enum-told-2 c = search needs
-
-enum-known-best : tie.Need-enum-known-best
-enum-known-best c = search needs
-
 returns : tie.Need-returns
 unfolding beats
 returns c = rw (c .enum-told .given .1)
@@ -26,4 +17,4 @@ unfolding beats
 returns-3 c = rw (c .before .before .before .best .given .1)
 
 pub beats-spec : {M : Type 1} → statement M
-beats-spec = tie.close (tie.spec enum-told enum-told-2 enum-known-best returns returns-2 returns-3)
+beats-spec = tie.close (tie.spec (λ c. search needs) (λ c. search needs) (λ c. search needs) returns returns-2 returns-3)

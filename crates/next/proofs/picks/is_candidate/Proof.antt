@@ -6,9 +6,6 @@ use borrow.Author.Needs.{needs}
 use Rattle.next.proofs.picks.is_candidate.Statement.{statement}
 use Rattle.next.proofs.picks.is_candidate.Tie as tie
 
-nearer-requires : tie.Need-nearer-requires
-nearer-requires c κs = search needs
-
 returns : tie.Need-returns
 unfolding isCandidate isPost
 returns c = search (needs, eq-eqb, c .nearer .ensures)
@@ -18,4 +15,4 @@ unfolding isCandidate isPost
 returns-2 c = search (needs, ne-eqb)
 
 pub is-candidate-spec : {M : Type 1} → statement M
-is-candidate-spec = tie.close (tie.spec nearer-requires returns returns-2)
+is-candidate-spec = tie.close (tie.spec (λ c κs. search needs) returns returns-2)

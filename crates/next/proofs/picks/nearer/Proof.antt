@@ -5,9 +5,6 @@ use borrow.Author.Needs.{needs}
 use Rattle.next.proofs.picks.nearer.Statement.{statement}
 use Rattle.next.proofs.picks.nearer.Tie as tie
 
-beats-requires : tie.Need-beats-requires
-beats-requires c κs = search needs
-
 returns : tie.Need-returns
 unfolding nearer
 returns c = search (needs, le-leb, c .beats .ensures)
@@ -21,4 +18,4 @@ unfolding nearer
 returns-3 c = search (needs, lt-leb)
 
 pub nearer-spec : {M : Type 1} → statement M
-nearer-spec = tie.close (tie.spec beats-requires returns returns-2 returns-3)
+nearer-spec = tie.close (tie.spec (λ c κs. search needs) returns returns-2 returns-3)

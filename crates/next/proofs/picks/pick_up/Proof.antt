@@ -6,9 +6,6 @@ use borrow.Author.Needs.{needs}
 use Rattle.next.proofs.picks.pick_up.Statement.{statement}
 use Rattle.next.proofs.picks.pick_up.Tie as tie
 
-nearer-requires : tie.Need-nearer-requires
-nearer-requires c κs = search needs
-
 returns : tie.Need-returns
 unfolding isIndex
 returns c = rw (pick-up, eq-eqb _ _ (c .before .before .if1 .taken), ← c .before .nearer .ensures, c .if2 .taken)
@@ -22,4 +19,4 @@ unfolding isIndex
 returns-3 c = rw (pick-up, ne-eqb _ _ (c .if1 .left))
 
 pub pick-up-spec : {M : Type 1} → statement M
-pick-up-spec = tie.close (tie.spec nearer-requires returns returns-2 returns-3)
+pick-up-spec = tie.close (tie.spec (λ c κs. search needs) returns returns-2 returns-3)

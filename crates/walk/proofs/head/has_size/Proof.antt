@@ -6,9 +6,6 @@ use borrow.Author.Needs.{needs}
 use Rattle.walk.proofs.head.has_size.Statement.{statement}
 use Rattle.walk.proofs.head.has_size.Tie as tie
 
-add-result : tie.Need-add-result
-add-result c = search needs
-
 mul-result : tie.Need-mul-result
 mul-result c = let h = size-fits _ _ (c .before .before .pre .0) (c .before .before .pre .1) in omega arith
 
@@ -23,4 +20,4 @@ unfolding sizeOf
 returns c = search needs
 
 pub has-size-spec : {M : Type 1} → statement M
-has-size-spec = tie.close (tie.spec add-result mul-result add-result-2 mul-result-2 returns)
+has-size-spec = tie.close (tie.spec (λ c. search needs) mul-result add-result-2 mul-result-2 returns)

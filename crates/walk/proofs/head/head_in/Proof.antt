@@ -5,21 +5,6 @@ use borrow.Author.Needs.{needs}
 use Rattle.walk.proofs.head.head_in.Statement.{statement}
 use Rattle.walk.proofs.head.head_in.Tie as tie
 
-head-fields-requires : tie.Need-head-fields-requires
-head-fields-requires c κs = search needs
-
-read-word-requires : tie.Need-read-word-requires
-read-word-requires c κs = search needs
-
-read-word-requires-2 : tie.Need-read-word-requires-2
-read-word-requires-2 c κs = search needs
-
-shared-slice-read-keeps-layout : tie.Need-shared-slice-read-keeps-layout
-shared-slice-read-keeps-layout c = search needs
-
-keeps-layout-requires : tie.Need-keeps-layout-requires
-keeps-layout-requires c κs = search needs
-
 returns : tie.Need-returns
 unfolding headIn layoutOf
 returns c =
@@ -35,11 +20,5 @@ returns-2 c =
 pub head-in-spec : {M : Type 1} → statement M
 head-in-spec =
     tie.close
-    (tie.spec
-    head-fields-requires
-    read-word-requires
-    read-word-requires-2
-    shared-slice-read-keeps-layout
-    keeps-layout-requires
-    returns
-    returns-2)
+    (tie.spec (λ c κs. search needs) (λ c κs. search needs) (λ c κs. search needs) (λ c. search needs)
+    (λ c κs. search needs) returns returns-2)

@@ -4,18 +4,6 @@ use borrow.Author.Needs.{needs}
 use Rattle.walk.proofs.head.in_limits.Statement.{statement}
 use Rattle.walk.proofs.head.in_limits.Tie as tie
 
-in-range-requires : tie.Need-in-range-requires
-in-range-requires c κs = search needs
-
-in-range-requires-2 : tie.Need-in-range-requires-2
-in-range-requires-2 c κs = search needs
-
-in-range-requires-3 : tie.Need-in-range-requires-3
-in-range-requires-3 c κs = search needs
-
-in-range-requires-4 : tie.Need-in-range-requires-4
-in-range-requires-4 c κs = search needs
-
 returns : tie.Need-returns
 unfolding limits
 returns c =
@@ -47,12 +35,5 @@ returns-4 c = rw (← c .before .in-range .ensures, c .if1 .left)
 pub in-limits-spec : {M : Type 1} → statement M
 in-limits-spec =
     tie.close
-    (tie.spec
-    in-range-requires
-    in-range-requires-2
-    in-range-requires-3
-    in-range-requires-4
-    returns
-    returns-2
-    returns-3
-    returns-4)
+    (tie.spec (λ c κs. search needs) (λ c κs. search needs) (λ c κs. search needs) (λ c κs. search needs) returns
+    returns-2 returns-3 returns-4)

@@ -4,9 +4,6 @@ use borrow.Author.Needs.{needs}
 use Rattle.walk.proofs.head.keeps_layout.Statement.{statement}
 use Rattle.walk.proofs.head.keeps_layout.Tie as tie
 
-suits-requires : tie.Need-suits-requires
-suits-requires c κs = search needs
-
 returns : tie.Need-returns
 returns c =
     let third = c .before in
@@ -23,4 +20,4 @@ returns-4 c = rw (ne-eqb _ _ (c .if1 .left))
 
 pub keeps-layout-spec : {M : Type 1} → statement M
 keeps-layout-spec =
-    tie.close (tie.spec suits-requires returns returns-2 returns-3 returns-4)
+    tie.close (tie.spec (λ c κs. search needs) returns returns-2 returns-3 returns-4)

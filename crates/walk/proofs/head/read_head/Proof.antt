@@ -13,15 +13,6 @@ returns : tie.Need-returns
 unfolding layoutOf
 returns c = rw (short-none _ (c .if1 .taken))
 
-sub-head-in : tie.Need-sub-head-in
-sub-head-in c = search needs
-
-part-head-in-start : tie.Need-part-head-in-start
-part-head-in-start c = search needs
-
-part-head-in-end : tie.Need-part-head-in-end
-part-head-in-end c = search needs
-
 head-in-requires : tie.Need-head-in-requires
 head-in-requires c κs = simp (length-take, length-drop) (omega arith)
 
@@ -32,4 +23,4 @@ returns-2 c = c .head-in .ensures
 pub read-head-spec : {M : Type 1} → statement M
 read-head-spec =
     tie.close
-    (tie.spec returns sub-head-in part-head-in-start part-head-in-end head-in-requires returns-2)
+    (tie.spec returns (λ c. search needs) (λ c. search needs) (λ c. search needs) head-in-requires returns-2)

@@ -5,9 +5,6 @@ use borrow.Author.Needs.{needs}
 use Rattle.walk.proofs.head.suits.Statement.{statement}
 use Rattle.walk.proofs.head.suits.Tie as tie
 
-in-limits-requires : tie.Need-in-limits-requires
-in-limits-requires c κs = search needs
-
 has-size-requires : tie.Need-has-size-requires
 has-size-requires c κs = let lim = limits-hold _ (sym (c .before .in-limits .ensures) ∙ c .if1 .taken) in (lim .m32, lim .n4096)
 
@@ -18,4 +15,4 @@ returns-2 : tie.Need-returns-2
 returns-2 c = rw (← c .before .in-limits .ensures, c .if1 .left)
 
 pub suits-spec : {M : Type 1} → statement M
-suits-spec = tie.close (tie.spec in-limits-requires has-size-requires returns returns-2)
+suits-spec = tie.close (tie.spec (λ c κs. search needs) has-size-requires returns returns-2)
