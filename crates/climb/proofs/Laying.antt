@@ -34,11 +34,11 @@ fill-up card i zero (e ∷ es) le = absurd (omega arith)
 fill-up card i (suc c) (e ∷ es) le = rw add-one (fill-up (put card i (encode e)) (suc i) c es (omega arith))
 
 -- behind the entries es of bucket b
-pub into-puts : (h : Head) (card : List ℕ) (b : ℕ) (es new : List Entry) → raw h card b ≡ some es → length es + length new ≤ h .m
-    → into h b new card ≡ puts card (base h b + length es) new
+pub into-puts : (h : Head) (card : List ℕ) (b : ℕ) (es new : List Entry) (at : ℕ) → raw h card b ≡ some es → length es + length new ≤ h .m → at ≡ base h b + length es
+    → into h b new card ≡ puts card at new
 unfolding into blanksOf
-into-puts h card b es new q le =
-    rw (blanks-from (h .n) card (base h b) (h .m) es q) (fill-up card (base h b + length es) (h .m - length es) new (omega arith))
+into-puts h card b es new at q le is =
+    rw (is, blanks-from (h .n) card (base h b) (h .m) es q) (fill-up card (base h b + length es) (h .m - length es) new (omega arith))
 
 -- the entries of a log that is read, and its first blank
 pub record Logged (h : Head) (card : List ℕ) : Type 0 where

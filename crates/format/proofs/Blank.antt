@@ -24,7 +24,6 @@ use Rattle.laws.proofs.Zeros.{zero-sector}
 use Rattle.laws.proofs.Used.{run-blank}
 use Rattle.laws.proofs.Buckets.{raw}
 use Rattle.laws.proofs.Heads.{Lim, limits-hold, head-length}
-use Rattle.writer.specs.Rows.{puts}
 use Rattle.climb.proofs.Laying.{into-puts}
 
 module _ (h : Head) (card : List ℕ) (li : limits h ≡ true) (size : length card ≡ sizeOf h) (zs : zeros card ≡ true) where
@@ -96,7 +95,7 @@ module _ (h : Head) (card : List ℕ) (li : limits h ≡ true) (size : length ca
   into-first : (c : List ℕ) (b at : ℕ) (e : Entry) → raw h c b ≡ some [] → base h b ≡ at → into h b (e ∷ []) c ≡ put c at (encode e)
   into-first c b at e q is =
       let k = lim .m4 in
-      into-puts h c b [] (e ∷ []) q (omega arith) ∙ ap (λ (n : ℕ). put c n (encode e)) (let z : base h b + 0 ≡ base h b = omega arith in z ∙ is)
+      into-puts h c b [] (e ∷ []) at q (omega arith) (omega arith)
 
   pub formatted-is : formatted h card ≡ put indexed (1 + h .n + h .m) (encode dummy)
   unfolding formatted

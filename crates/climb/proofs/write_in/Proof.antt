@@ -1,13 +1,8 @@
 -- `climb::write_in` fills the first blanks of a bucket.
 use borrow.Author.Needs.{needs}
-use mathlib.Core.Path.{_≡_, ap, sym, _∙_}
-use Prim.Native.Nat.{ℕ, _+_}
+use mathlib.Core.Path.{sym, _∙_}
 use native.Mathlib.Omega.{arith}
-use lib.ListN.{length}
-use mathlib.Core.Path.{ap₂}
 use Rattle.rules.specs.Layout.{base}
-use Rattle.writer.specs.Rows.{puts}
-use Rattle.level.specs.Level.{sentList}
 use Rattle.laws.proofs.Heads.{bucket-low, bucket-fits}
 use Rattle.climb.specs.Levels.{entriesOn}
 use Rattle.climb.proofs.Reading.{reads}
@@ -41,10 +36,8 @@ returns c =
     let o = at-first-sector .before .before in
     let a = o .args in
     let rd = reads (a .head) (a .card .now) (a .b) (o .pre .0 .0) (o .pre .0 .1) in
-    let es = entriesOn (a .head) (a .card .now) (a .b) in
-    let at : at-first-sector .first-sector .result + a .used ≡ base (a .head) (a .b) + length es = ap₂ (λ (x y : ℕ). x + y) (at-first-sector .first-sector .ensures) (o .pre .0 .2) in
-    at-write-sent .write-sent .ensures ∙ ap (λ (k : ℕ). puts (a .card .now) k (sentList (a .p))) at
-    ∙ sym (into-puts (a .head) (a .card .now) (a .b) es (sentList (a .p)) (rd .raws) (omega (arith, o .pre .0 .2, o .pre .1)))
+    at-write-sent .write-sent .ensures
+    ∙ sym (into-puts _ _ _ (entriesOn (a .head) (a .card .now) (a .b)) _ _ (rd .raws) (omega (arith, o .pre .0 .2, o .pre .1)) (omega (arith, at-first-sector .first-sector .ensures, o .pre .0 .2)))
 
 pub write-in-spec : {M : Type 1} → statement M
 write-in-spec =

@@ -1,14 +1,9 @@
 -- `climb::write_new` fills one fresh bucket.
 use borrow.Author.Needs.{needs}
-use mathlib.Core.Path.{_≡_, ap, sym, _∙_}
+use mathlib.Core.Path.{sym, _∙_}
 use mathlib.Core.List.{[]}
-use Prim.Native.Nat.{ℕ, _+_, _-_}
 use native.Mathlib.Omega.{arith}
-use lib.ListN.{length}
-use lib.Seq.{slice}
 use lib.Seq.{length-slice}
-use Rattle.rules.specs.Layout.{base}
-use Rattle.writer.specs.Rows.{puts}
 use Rattle.laws.proofs.Heads.{bucket-fits}
 use Rattle.climb.proofs.Laying.{into-puts}
 use Rattle.climb.proofs.write_new.Statement.{statement}
@@ -30,13 +25,9 @@ returns c =
     let at-first-sector = at-write-run .before .before in
     let o = at-first-sector .before .before in
     let a = o .args in
-    let card = a .card .now in
-    let new = slice (a .from) (a .to) (a .h .entries) in
-    let long : length new ≡ a .to - a .from = length-slice (a .from) (a .to) (a .h .entries) (omega (arith, o .pre .1)) in
-    let at : at-first-sector .first-sector .result ≡ base (a .head) (a .b) + 0 = at-first-sector .first-sector .ensures ∙ (let z : base (a .head) (a .b) ≡ base (a .head) (a .b) + 0 = omega arith in z) in
+    let long = length-slice (a .from) (a .to) (a .h .entries) (omega (arith, o .pre .1)) in
     at-write-run .write-run .ensures
-    ∙ ap (λ (k : ℕ). puts card k new) at
-    ∙ sym (into-puts (a .head) card (a .b) [] new (o .pre .0 .3) (omega (arith, o .pre .1)))
+    ∙ sym (into-puts _ _ _ [] _ _ (o .pre .0 .3) (omega (arith, o .pre .1)) (omega (arith, at-first-sector .first-sector .ensures)))
 
 pub write-new-spec : {M : Type 1} → statement M
 write-new-spec = tie.close (tie.spec first-sector-requires write-run-requires (λ c. search needs) returns)
