@@ -1,18 +1,16 @@
 -- `climb::write_own` fills one fresh bucket, or two.
 use borrow.Author.Needs.{needs}
-use mathlib.Core.Path.{_≡_, ap, sym, _∙_, subst}
-use mathlib.Core.List.{List, []}
-use Prim.Native.Nat.{ℕ, _+_, _-_, _/_}
+use mathlib.Core.Path.{subst}
+use mathlib.Core.List.{[]}
+use Prim.Native.Nat.{_+_, _≤_}
 use native.Mathlib.Omega.{arith}
-use lib.ListN.{length, take}
-use lib.Seq.{slice}
-use borrow.Author.Tests.{lt-ltb, le-ltb}
+use lib.ListN.{length}
 use lib.Seq.{take-take}
-use Rattle.climb.proofs.Counting.{take-small, drop-small}
-use Rattle.rules.specs.Rewrite.{into}
+use borrow.Author.Tests.{lt-ltb, le-ltb}
 use Rattle.hand.specs.Hand.{held}
 use Rattle.level.specs.Level.{AllSmall}
 use Rattle.climb.specs.Levels.{ownCard, Ready}
+use Rattle.climb.proofs.Counting.{take-small, drop-small}
 use Rattle.climb.proofs.Rising.{ready-into}
 use Rattle.climb.proofs.write_own.Statement.{statement}
 use Rattle.climb.proofs.write_own.Tie as tie
@@ -28,6 +26,14 @@ write-new-requires c κs =
       (omega arith, hs .most, omega (arith, c .before .if1 .taken, o .pre .1), hs .long, hs .small),
     )
 
+-- two buckets: both are the card's
+both-fit : (q : tie.Else1) → let a = q .before .before .args in a .fresh + 1 ≤ a .head .n
+both-fit q =
+    let o = q .before .before in
+    let t = le-ltb (length (held (o .args .h))) (o .args .limit) (omega (arith, o .pre .1 .0 .count)) in
+    let cap = rw t at (o .pre .0 .1) in
+    omega arith
+
 write-new-requires-2 : tie.Need-write-new-requires-2
 write-new-requires-2 c κs =
     let o = c .before .before .before .before in
@@ -35,19 +41,15 @@ write-new-requires-2 c κs =
     let rd = o .pre .0 .0 in
     let hs = o .pre .1 .0 in
     let m = rd .shape .lim .m4 in
-    let t = le-ltb (length (held (a .h))) (a .limit) (omega (arith, hs .count)) in
-    let cap = rw t at (o .pre .0 .1) in
-    let n = a .h .count in
-    let es = held (a .h) in
-    let cut : c .before .halved .result ≡ length es - length es / 2 = c .before .halved .ensures .0 ∙ ap (λ (k : ℕ). k - k / 2) (hs .count) in
-    let low : slice 0 (c .before .halved .result) (a .h .entries) ≡ take (length es - length es / 2) es = sym (take-take (c .before .halved .result) n (a .h .entries) (c .before .halved .ensures .1)) ∙ ap (λ (k : ℕ). take k es) cut in (
+    let fit = both-fit (c .before .before) in
+    let cut = c .before .halved .ensures in (
       (rd .shape, rd .least, omega arith, rd .free (a .fresh) (omega arith) (omega arith)),
       (
         omega arith,
-        omega (arith, c .before .halved .ensures .1, hs .most),
-        omega (arith, c .before .halved .ensures .0, o .pre .1),
+        omega (arith, hs .most),
+        omega (arith, o .pre .1),
         hs .long,
-        subst AllSmall (sym low) (take-small (length es - length es / 2) es (hs .small)),
+        subst AllSmall (take-take _ _ (a .h .entries) (cut .1)) (take-small (c .before .halved .result) (held (a .h)) (hs .small)),
       ),
     )
 
@@ -60,19 +62,11 @@ write-new-requires-3 c κs =
     let rd = o .pre .0 .0 in
     let hs = o .pre .1 .0 in
     let m = rd .shape .lim .m4 in
-    let t = le-ltb (length (held (a .h))) (a .limit) (omega (arith, hs .count)) in
-    let cap = rw t at (o .pre .0 .1) in
-    let first = ready-into (a .head) (a .card .now) [] (a .fresh) (slice 0 (at-halved .halved .result) (a .h .entries)) rd (omega arith) in
-    let w : at-write-new2 .write-new2 .last .0 ≡ into (a .head) (a .fresh) (slice 0 (at-halved .halved .result) (a .h .entries)) (a .card .now) = at-write-new2 .write-new2 .ensures in
-    let now = subst (λ (l : List ℕ). Ready (a .head) l [] (a .fresh + 1)) (sym w) first in (
-      (now .shape, omega arith, omega arith, now .free (a .fresh + 1) (omega arith) (omega arith)),
-      (
-        omega (arith, at-halved .halved .ensures .1),
-        hs .most,
-        omega (arith, at-halved .halved .ensures .0, o .pre .1),
-        hs .long,
-        drop-small (at-halved .halved .result) (held (a .h)) (hs .small),
-      ),
+    let fit = both-fit (at-halved .before) in
+    let cut = at-halved .halved .ensures in
+    let filled : Ready (a .head) (at-write-new2 .write-new2 .last .0) [] (a .fresh + 1) = rw (at-write-new2 .write-new2 .ensures) (ready-into _ _ _ _ _ rd (omega arith)) in (
+      (filled .shape, omega arith, omega arith, filled .free (a .fresh + 1) (omega arith) (omega arith)),
+      (omega arith, hs .most, omega (arith, o .pre .1), hs .long, drop-small (at-halved .halved .result) (held (a .h)) (hs .small)),
     )
 
 returns : tie.Need-returns
@@ -96,11 +90,8 @@ returns-2 c =
     let a = o .args in
     let hs = o .pre .1 .0 in
     let t = le-ltb (length (held (a .h))) (a .limit) (omega (arith, hs .count, at-if1 .if1 .left)) in
-    let n = a .h .count in
-    let es = held (a .h) in
-    let cut : at-halved .halved .result ≡ length es - length es / 2 = at-halved .halved .ensures .0 ∙ ap (λ (k : ℕ). k - k / 2) (hs .count) in
-    let low : slice 0 (at-halved .halved .result) (a .h .entries) ≡ take (length es - length es / 2) es = sym (take-take (at-halved .halved .result) n (a .h .entries) (at-halved .halved .ensures .1)) ∙ ap (λ (k : ℕ). take k es) cut in
-    rw (t, ← low, ← cut, ← at-write-new2 .write-new2 .ensures) (at-write-new3 .write-new3 .ensures)
+    let cut = rw (hs .count) at (at-halved .halved .ensures .0) in
+    rw (t, ← cut, take-take _ _ (a .h .entries) (at-halved .halved .ensures .1), ← at-write-new2 .write-new2 .ensures) (at-write-new3 .write-new3 .ensures)
 
 pub write-own-spec : {M : Type 1} → statement M
 write-own-spec =
