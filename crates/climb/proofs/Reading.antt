@@ -1,6 +1,6 @@
 -- A bucket that is read, as its part of the card gives it: how many sectors are written, their entries, its blanks.
 use mathlib.Core.Path.{_≡_, refl, ap, ap₂, sym, _∙_, subst}
-use mathlib.Core.Logic.{_⊎_, ⊎-elim}
+use mathlib.Core.Logic.{⊎-elim}
 use mathlib.Core.Bool.{true, false}
 use mathlib.Core.Option.{some}
 use mathlib.Core.List.{List, [], _∷_}
@@ -16,7 +16,7 @@ use Rattle.rules.specs.declared.Head.{Head}
 use Rattle.rules.specs.declared.Sector.the-variants.{Blank, Held}
 use Rattle.rules.specs.Sector.{sectorAt, fields, decode, legal}
 use Rattle.rules.specs.Layout.{base}
-use Rattle.rules.specs.Bucket.{run, bucket, blanksOf, blanks, soundBucket}
+use Rattle.rules.specs.Bucket.{run, blanksOf, soundBucket}
 use Rattle.laws.proofs.Tools.{none-some, bool-cases, false-true}
 use Rattle.laws.proofs.Codec.{blank-zeros}
 use Rattle.laws.proofs.Run.{onto-inv}

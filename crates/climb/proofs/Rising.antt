@@ -1,6 +1,6 @@
 -- One level of the way up, as the code finds it: with room for what was sent, or rewritten.
 use mathlib.Core.Path.{_≡_, refl, ap, _∙_, subst}
-use mathlib.Core.Logic.{_⊎_, ⊎-elim}
+use mathlib.Core.Logic.{⊎-elim}
 use mathlib.Core.Bool.{true, false}
 use mathlib.Core.List.{List, [], _∷_}
 use Prim.Native.Nat.{ℕ, _+_, _-_, _/_, _≤_, _<_}
@@ -12,7 +12,7 @@ use Rattle.rules.specs.declared.Entry.{Entry}
 use Rattle.rules.specs.declared.Head.{Head}
 use Rattle.rules.specs.Plain.{andThen}
 use Rattle.rules.specs.Sector.{rootEntry}
-use Rattle.rules.specs.Bucket.{bucket, log, blanksOf, logBlanks, soundLog}
+use Rattle.rules.specs.Bucket.{log, blanksOf, logBlanks, soundLog}
 use Rattle.rules.specs.Rewrite.{Rise, into, fill, oneBucket}
 use Rattle.rules.specs.Write.{place, placeIf, rooted, logged}
 use Rattle.laws.proofs.Tools.{bool-cases}

@@ -16,9 +16,9 @@ ghost use Rattle.rules.specs.Bucket.{log, logBlanks};
 ghost use Rattle.rules.specs.Rewrite.{fill, into};
 ghost use Rattle.laws.proofs.Buckets.{raw};
 ghost use Rattle.hand.specs.Hand.{held};
-ghost use Rattle.level.specs.Level.{sentList, pairsOf, needOf, AllSmall};
+ghost use Rattle.level.specs.Level.{sentList, needOf, AllSmall};
 ghost use Rattle.bucket.specs.Shapes.{Shape};
-ghost use Rattle.climb.specs.Levels.{entriesOn, keptOn, limitOn, ownCard, tally, countOn, needsOf, risen, riseOn, topped, Read, AllRead, Ready, Holds, HandsOn};
+ghost use Rattle.climb.specs.Levels.{entriesOn, keptOn, limitOn, ownCard, tally, countOn, needsOf, risen, topped, Read, AllRead, Ready, Holds, HandsOn};
 
 // What a rewritten level hands on: the pairs of its new buckets, and the next fresh one.
 pub struct Renewed {

@@ -1,7 +1,7 @@
 -- `climb::kept_in` keeps what the rule keeps of a bucket that is read.
 use mathlib.Core.Path.{_≡_, ap, sym, _∙_, subst}
 use mathlib.Core.List.{List, _++_}
-use Prim.Native.Nat.{ℕ, _+_}
+use Prim.Native.Nat.{ℕ}
 use native.Mathlib.Omega.{arith}
 use lib.ListN.{length-map}
 use Rattle.rules.specs.declared.Entry.{Entry}
