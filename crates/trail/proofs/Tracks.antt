@@ -19,7 +19,6 @@ use Rattle.rules.specs.Write.{latest}
 use Rattle.scan.specs.declared.Found.{Found}
 use Rattle.scan.specs.declared.Found.the-variants.{Damage, Nothing, Hit}
 use Rattle.scan.specs.declared.Way.{Way}
-use Rattle.scan.specs.declared.Way.the-variants.{Lost, Down, Absent, Copy}
 use Rattle.scan.specs.Scan.{sectors, wayOf, searchLog}
 use Rattle.scan.specs.Look.{searchAt}
 use Rattle.scan.proofs.Picks.{hit}
@@ -131,22 +130,6 @@ module _ (h : Head) (card : List ℕ) (x r b k : ℕ) (path : List ℕ) (w : Tra
   stored : drop start (set path start b) ≡ b ∷ drop (4096 - r) path
   stored = store-front path start b (omega arith) ∙ ap (λ (n : ℕ). b ∷ drop n path) (let z : suc start ≡ 4096 - r = omega arith in z)
 
-  track-turn : trackOn s (drop start (set path start b)) (trackScan h card x (h .n - (r + 1)) (drop start (set path start b))) ≡ w
+  pub track-turn : trackOn s (drop start (set path start b)) (trackScan h card x (h .n - (r + 1)) (drop start (set path start b))) ≡ w
   unfolding trackScan
   track-turn = let more : h .n - r ≡ suc (h .n - (r + 1)) = omega arith in rw (said, stored) (rw more at inv)
-
-  pub track-down : (e : Entry) → s ≡ Down e → trackScan h card x (h .n - (r + 1)) (drop start (set path start b)) (e .value) (e .key) ≡ w
-  unfolding trackOn
-  track-down e q = rw q at track-turn
-
-  pub track-lost : s ≡ Lost → track [] Damage ≡ w
-  unfolding trackOn
-  track-lost q = rw q at track-turn
-
-  pub track-absent : s ≡ Absent → track (drop start (set path start b)) Nothing ≡ w
-  unfolding trackOn
-  track-absent q = rw q at track-turn
-
-  pub track-copy : (e : Entry) → s ≡ Copy e → track (drop start (set path start b)) (Hit e) ≡ w
-  unfolding trackOn
-  track-copy e q = rw q at track-turn
