@@ -3,7 +3,7 @@ use rules::Head;
 use scan::Found;
 use scan::Way;
 ghost use mathlib.Core.Path.{_≡_};
-ghost use Prim.Native.Nat.{_+_, _≤_};
+ghost use Prim.Native.Nat.{_≤_};
 ghost use lib.ListN.{length, drop};
 ghost use Rattle.scan.specs.Scan.{sectors, searchLog};
 ghost use Rattle.bucket.specs.Shapes.{Shape};
