@@ -4,6 +4,7 @@ pub mod Zeros
 pub mod Codec
 pub mod Run
 pub mod Heads
+pub mod Best
 pub mod Lists
 pub mod Copies
 pub mod Halves

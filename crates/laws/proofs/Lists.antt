@@ -7,10 +7,11 @@ use Prim.Native.Nat.{ℕ, _≤_, _<_, min}
 use native.Mathlib.Omega.{arith}
 use mathlib.Core.List.{List, [], _∷_, _++_, append-nil}
 use lib.Dec.{leb, ltb, eqb}
-use borrow.Author.Tests.{leb-true, lt-ltb, le-ltb, le-leb, lt-leb, eq-eqb, ne-eqb}
+use borrow.Author.Tests.{leb-true, leb-false, lt-ltb, le-ltb, le-leb, lt-leb, eq-eqb, ne-eqb}
 use Rattle.rules.specs.declared.Entry.{Entry}
 use Rattle.rules.specs.Plain.{if, keepIf, only, lastOf, larger, largest}
 use Rattle.rules.specs.Walk.{follow, copyOf}
+use Rattle.laws.proofs.Best.{Order, better, best, best-snoc}
 use Rattle.laws.proofs.Tools.{none-some, le-or-lt, true-false}
 
 keep-append : (b : Bool) (e : Entry) (xs ys : List Entry) → keepIf b e (xs ++ ys) ≡ keepIf b e xs ++ ys
@@ -38,31 +39,27 @@ unfolding copyOf only
 copy-snoc-other x es e q =
     rw (only-append (λ d. eqb (d .key) x) es (e ∷ []), ne-eqb (e .key) x q) (ap lastOf (append-nil (only (λ d. eqb (d .key) x) es)))
 
--- of the best so far and one more entry at the end
-abbrev pub top : Option Entry → Entry → Entry
-top none p = p
-top (some d) p = if (leb (d .key) (p .key)) p d
+-- the larger key, of one key the later copy
+abbrev upward : Entry → Entry → Bool
+upward d p = leb (d .key) (p .key)
 
-larger-top : (e : Entry) (r : Option Entry) (p : Entry) → larger e (some (top r p)) ≡ some (top (larger e r) p)
+abbrev pub top : Option Entry → Entry → Entry
+top = best upward
+
+upward-order : Order upward
+upward-order = record {
+  taken = λ e d p ed dp. le-leb (e .key) (p .key) (omega (arith, leb-true (e .key) (d .key) ed, leb-true (d .key) (p .key) dp));
+  left = λ e d p ed dp. lt-leb (e .key) (p .key) (omega (arith, leb-false (e .key) (d .key) ed, leb-false (d .key) (p .key) dp));
+}
+
+larger-better : (e : Entry) (r : Option Entry) → larger e r ≡ better upward e r
 unfolding larger
-larger-top e none p = elim (leb (e .key) (p .key)) as (λ b. if b (some p) (some e) ≡ some (if b p e)) [ true ↦ refl | false ↦ refl ]
-larger-top e (some d) p =
-    ⊎-elim
-    (λ ed. ⊎-elim
-    (λ dp. simp (le-leb (e .key) (d .key) ed, le-leb (d .key) (p .key) dp, le-leb (e .key) (p .key) (omega arith)))
-    (λ pd. simp (le-leb (e .key) (d .key) ed, lt-leb (d .key) (p .key) pd))
-    (le-or-lt (d .key) (p .key)))
-    (λ de. ⊎-elim
-    (λ dp. simp (lt-leb (e .key) (d .key) de, le-leb (d .key) (p .key) dp)
-    (elim (leb (e .key) (p .key)) as (λ b. if b (some p) (some e) ≡ some (if b p e)) [ true ↦ refl | false ↦ refl ]))
-    (λ pd. simp (lt-leb (e .key) (d .key) de, lt-leb (d .key) (p .key) pd, lt-leb (e .key) (p .key) (omega arith)))
-    (le-or-lt (d .key) (p .key)))
-    (le-or-lt (e .key) (d .key))
+larger-better e none = refl
+larger-better e (some d) = refl
 
 largest-snoc : (es : List Entry) (p : Entry) → largest (es ++ (p ∷ [])) ≡ some (top (largest es) p)
-unfolding largest larger
-largest-snoc [] p = refl
-largest-snoc (e ∷ es) p = ap (larger e) (largest-snoc es p) ∙ larger-top e (largest es) p
+unfolding largest
+largest-snoc = best-snoc upward upward-order largest refl (λ e es. larger-better e (largest es))
 
 pub follow-snoc-in : (x : ℕ) (es : List Entry) (p : Entry) → p .key ≤ x → follow x (es ++ (p ∷ [])) ≡ some (top (follow x es) p)
 unfolding follow only

@@ -7,7 +7,7 @@ use Prim.Native.Nat.{ℕ, _+_, _-_, _≤_, _<_}
 use native.Mathlib.Omega.{arith}
 use mathlib.Core.List.{List, [], _∷_, _++_, append-assoc}
 use lib.Dec.{leb, ltb, eqb}
-use borrow.Author.Tests.{le-leb, lt-leb, eq-eqb, ne-eqb, lt-ltb, le-ltb}
+use borrow.Author.Tests.{leb-true, leb-false, le-leb, lt-leb, eq-eqb, ne-eqb, lt-ltb, le-ltb}
 use Rattle.rules.specs.declared.Entry.{Entry}
 use Rattle.rules.specs.declared.Sector.{Sector}
 use Rattle.rules.specs.declared.Sector.the-variants.{Blank, Held, Damaged}
@@ -17,6 +17,7 @@ use Rattle.rules.specs.Plain.{if, _&_, only, lastOf, smaller, smallest, isNone}
 use Rattle.rules.specs.Sector.{isIndex, isPost}
 use Rattle.rules.specs.Walk.{left, copyOf}
 use Rattle.laws.proofs.Tools.{le-or-lt, eq-or-ne, bool-cases, none-some}
+use Rattle.laws.proofs.Best.{Order, better, best, best-snoc}
 use Rattle.laws.proofs.Lists.{only-append}
 use Rattle.scan.specs.declared.Found.{Found}
 use Rattle.scan.specs.declared.Found.the-variants.{Nothing, Hit}
@@ -24,31 +25,27 @@ use Rattle.scan.specs.Next.{under, above, aboveAt, pickUp, weigh, later,
 use Rattle.scan.proofs.Runs.{nil, runOf, fold, fold-snoc}
 use Rattle.scan.proofs.Picks.{hit, left-in, left-out}
 
--- of the best so far and one more entry at the end
-abbrev low : Option Entry → Entry → Entry
-low none p = p
-low (some d) p = if (leb (p .key) (d .key)) p d
+-- the smaller key, of one key the later copy
+abbrev downward : Entry → Entry → Bool
+downward d p = leb (p .key) (d .key)
 
-smaller-low : (e : Entry) (r : Option Entry) (p : Entry) → smaller e (some (low r p)) ≡ some (low (smaller e r) p)
+abbrev low : Option Entry → Entry → Entry
+low = best downward
+
+downward-order : Order downward
+downward-order = record {
+  taken = λ e d p ed dp. le-leb (p .key) (e .key) (omega (arith, leb-true (d .key) (e .key) ed, leb-true (p .key) (d .key) dp));
+  left = λ e d p ed dp. lt-leb (p .key) (e .key) (omega (arith, leb-false (d .key) (e .key) ed, leb-false (p .key) (d .key) dp));
+}
+
+smaller-better : (e : Entry) (r : Option Entry) → smaller e r ≡ better downward e r
 unfolding smaller
-smaller-low e none p = elim (leb (p .key) (e .key)) as (λ b. if b (some p) (some e) ≡ some (if b p e)) [ true ↦ refl | false ↦ refl ]
-smaller-low e (some d) p =
-    ⊎-elim
-    (λ de. ⊎-elim
-    (λ pd. simp (le-leb (d .key) (e .key) de, le-leb (p .key) (d .key) pd, le-leb (p .key) (e .key) (omega arith)))
-    (λ dp. simp (le-leb (d .key) (e .key) de, lt-leb (p .key) (d .key) dp))
-    (le-or-lt (p .key) (d .key)))
-    (λ ed. ⊎-elim
-    (λ pd. simp (lt-leb (d .key) (e .key) ed, le-leb (p .key) (d .key) pd)
-    (elim (leb (p .key) (e .key)) as (λ b. if b (some p) (some e) ≡ some (if b p e)) [ true ↦ refl | false ↦ refl ]))
-    (λ dp. simp (lt-leb (d .key) (e .key) ed, lt-leb (p .key) (d .key) dp, lt-leb (p .key) (e .key) (omega arith)))
-    (le-or-lt (p .key) (d .key)))
-    (le-or-lt (d .key) (e .key))
+smaller-better e none = refl
+smaller-better e (some d) = refl
 
 smallest-snoc : (es : List Entry) (p : Entry) → smallest (es ++ (p ∷ [])) ≡ some (low (smallest es) p)
-unfolding smallest smaller
-smallest-snoc [] p = refl
-smallest-snoc (e ∷ es) p = ap (smaller e) (smallest-snoc es p) ∙ smaller-low e (smallest es) p
+unfolding smallest
+smallest-snoc = best-snoc downward downward-order smallest refl (λ e es. smaller-better e (smallest es))
 
 under-low : (r : Option Entry) (e : Entry) → under (hit r) e ≡ hit (some (low r e))
 unfolding under hit
