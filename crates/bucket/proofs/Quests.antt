@@ -5,14 +5,14 @@ use mathlib.Core.List.{List}
 use Prim.Native.Nat.{ℕ, _+_, _*_, _-_, _≤_}
 use native.Mathlib.Nat.{sub-zero}
 use native.Mathlib.Omega.{arith}
-use lib.ListN.{length, take}
+use lib.ListN.{length}
 use Rattle.rules.specs.declared.Entry.{Entry}
 use Rattle.rules.specs.declared.Head.{Head}
 use Rattle.rules.specs.declared.Sector.{Sector}
 use Rattle.rules.specs.declared.Sector.the-variants.{Held}
 use Rattle.rules.specs.Bucket.{joins}
 use Rattle.rules.specs.Plain.{if}
-use Rattle.rules.specs.Sector.{decode, isIndex}
+use Rattle.rules.specs.Sector.{decode, sectorAt, isIndex}
 use Rattle.scan.specs.declared.Found.{Found}
 use Rattle.scan.specs.declared.Found.the-variants.{Nothing}
 use Rattle.scan.specs.declared.Way.the-variants.{Lost}
@@ -33,7 +33,7 @@ unfolding bucketQuest fits kindFits joins takes prefers pick
 quest-way h x t ss q is = ap (λ (p : Quest). wayOf (p .index) (scanIn (fits p) (takes p) ss (takes p Nothing h))) is
 
 -- the header read and tested, and the scan behind it
-pub search-told : (k x t n m : ℕ) (b : List ℕ) (s : Sector) (e : Entry) (q : Quest) (good : Bool) → 4 ≤ m → s ≡ decode n (take 16 b) → s ≡ Held e → e .key ≡ k
+pub search-told : (k x t n m : ℕ) (b : List ℕ) (s : Sector) (e : Entry) (q : Quest) (good : Bool) → 4 ≤ m → s ≡ decode n (sectorAt b 0) → s ≡ Held e → e .key ≡ k
     → q ≡ bucketQuest e x t → good ≡ fits q e
     → if good (wayOf (q .index) (scanIn (fits q) (takes q) (sectors n b 1 (m - 1)) (takes q Nothing e))) Lost ≡ search k x t (sectors n b 0 m)
 search-told k x t n m b s e q true h d held same is fit =

@@ -58,14 +58,12 @@ fn scan_from(part: &[u8], n: usize, from: usize, count: usize, quest: Quest, fir
         if i == count {
             break best;
         }
-        let a = 16 * i;
-        let e = a + 16;
-        let s = sector::decode(&part[a..e], n);
+        let s = sector::at(part, n, i);
         let Sector::Held(x) = s else {
             let Sector::Blank = s else {
                 break Found::Damage;
             };
-            if sector::all_zero(&part[e..]) {
+            if sector::all_zero(&part[16 * i + 16..]) {
                 break best;
             }
             break Found::Damage;
@@ -110,7 +108,7 @@ fn search_part(part: &[u8], n: usize, m: usize, header: u32, key: u32, stamp: u3
     requires { ⌜ (4 ≤ m) × (m ≤ 32) ⌝ }
     ensures { λ r. ⌜ r ≡ search header key stamp (sectors n (now (part .entry)) 0 m) ⌝ }
 {
-    let first = sector::decode(&part[0..16], n);
+    let first = sector::at(part, n, 0);
     let Sector::Held(top) = first else {
         return Way::Lost;
     };

@@ -10,7 +10,7 @@ use denote.Enum.Declared.{tagOf}
 use Rattle.rules.specs.declared.Entry.{Entry}
 use Rattle.rules.specs.declared.Head.{Head}
 use Rattle.rules.specs.declared.Answer.{Answer}
-use Rattle.rules.specs.Answers.{answer, refused, ended}
+use Rattle.rules.specs.Answers.{refused, ended}
 use Rattle.rules.specs.Layout.{headOf}
 use Rattle.rules.specs.Next.{nextIn, next}
 use Rattle.scan.specs.declared.Found.{Found}

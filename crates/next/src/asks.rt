@@ -17,9 +17,7 @@ pub fn least_above(part: &[u8], n: usize, m: usize, x: u32, t: u32, up: Found) -
     let mut least = up;
     let mut i: usize = 0;
     while i < m {
-        let a = 16 * i;
-        let e = a + 16;
-        let s = sector::decode(&part[a..e], n);
+        let s = sector::at(part, n, i);
         let Sector::Held(d) = s else {
             return least;
         };
@@ -36,9 +34,7 @@ fn comes_again(part: &[u8], n: usize, m: usize, from: usize, bib: u32, t: u32) -
 {
     let mut i = from;
     while i < m {
-        let a = 16 * i;
-        let e = a + 16;
-        let s = sector::decode(&part[a..e], n);
+        let s = sector::at(part, n, i);
         let Sector::Held(d) = s else {
             return false;
         };
@@ -81,9 +77,7 @@ pub fn standing(part: &[u8], n: usize, m: usize, k: u32, t: u32) -> Found
     let mut best = Found::Nothing;
     let mut i: usize = 0;
     while i < m {
-        let a = 16 * i;
-        let e = a + 16;
-        let s = sector::decode(&part[a..e], n);
+        let s = sector::at(part, n, i);
         let Sector::Held(d) = s else {
             return best;
         };

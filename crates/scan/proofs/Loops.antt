@@ -2,12 +2,10 @@
 use mathlib.Core.Path.{_≡_, refl, ap, sym, _∙_, subst}
 use mathlib.Core.Bool.{Bool, true, false}
 use mathlib.Core.Logic.{⊎-elim}
-use Prim.Native.Nat.{ℕ, suc, _+_, _*_, _-_, _≤_, _<_}
+use Prim.Native.Nat.{ℕ, suc, _+_, _-_, _≤_, _<_}
 use native.Mathlib.Omega.{arith}
-use native.Mathlib.Nat.{add-sub-cancel-left}
 use native.Mathlib.Numerals.{add-one}
 use mathlib.Core.List.{List, [], _∷_}
-use lib.ListN.{take, drop}
 use borrow.Author.Tests.{eq-eqb, ne-eqb}
 use types.Run.{OneOf}
 use denote.Enum.Declared.{tagOf}
@@ -32,24 +30,24 @@ use Rattle.scan.proofs.Data.{Ends, data-weigh}
 
 -- the sectors from the i-th on, up to the m-th: the i-th, and those from the next on
 pub sectors-step : (n m i : ℕ) (b : List ℕ) → i < m
-    → sectors n b i (m - i) ≡ decode n (take (16 * i + 16 - 16 * i) (drop (16 * i) b)) ∷ sectors n b (i + 1) (m - (i + 1))
-unfolding sectors sectorAt
+    → sectors n b i (m - i) ≡ decode n (sectorAt b i) ∷ sectors n b (i + 1) (m - (i + 1))
+unfolding sectors
 sectors-step n m i b h =
     let more : m - i ≡ suc (m - (i + 1)) = omega arith in
-    rw (more, add-sub-cancel-left, add-one)
+    rw (more, add-one)
 
 pub sectors-end : (n m i : ℕ) (b : List ℕ) → m ≤ i → sectors n b i (m - i) ≡ []
 unfolding sectors
 sectors-end n m i b h = let z : m - i ≡ 0 = omega arith in rw z
 
 -- the first of m sectors
-pub sectors-first : (n m : ℕ) (b : List ℕ) → 4 ≤ m → sectors n b 0 m ≡ decode n (take 16 b) ∷ sectors n b 1 (m - 1)
-unfolding sectors sectorAt
+pub sectors-first : (n m : ℕ) (b : List ℕ) → 4 ≤ m → sectors n b 0 m ≡ decode n (sectorAt b 0) ∷ sectors n b 1 (m - 1)
+unfolding sectors
 sectors-first n m b h = let more : m ≡ suc (m - 1) = omega arith in ap (λ (k : ℕ). sectors n b 0 k) more
 
 -- any question g to the sectors from the i-th on, once the i-th was read as s; w is what the whole answers
 pub sectors-turn : {A : Type 0} (g : List Sector → A) (n m i : ℕ) (b : List ℕ) (s : Sector) (w : A) → i < m
-    → s ≡ decode n (take (16 * i + 16 - 16 * i) (drop (16 * i) b)) → g (sectors n b i (m - i)) ≡ w → g (s ∷ sectors n b (i + 1) (m - (i + 1))) ≡ w
+    → s ≡ decode n (sectorAt b i) → g (sectors n b i (m - i)) ≡ w → g (s ∷ sectors n b (i + 1) (m - (i + 1))) ≡ w
 sectors-turn g n m i b s w h d inv = rw (sectors-step n m i b h, ← d) at inv
 
 -- neither an entry nor blank, as the two elses have it
@@ -72,7 +70,7 @@ unfolding wayOf
 way-lost true = refl
 way-lost false = refl
 
-module _ (k x t n m : ℕ) (b : List ℕ) (s : Sector) (h : 4 ≤ m) (d : s ≡ decode n (take 16 b)) where
+module _ (k x t n m : ℕ) (b : List ℕ) (s : Sector) (h : 4 ≤ m) (d : s ≡ decode n (sectorAt b 0)) where
   -- no entry at the start
   pub first-none : OneOf (0 ∷ 2 ∷ []) (tagOf the-type s) → Lost ≡ search k x t (sectors n b 0 m)
   first-none p = rw (sectors-first n m b h, ← d) (first-other-kind k x t s (sectors n b 1 (m - 1)) p)

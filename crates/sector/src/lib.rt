@@ -4,7 +4,7 @@ ghost use Prim.Native.Nat.{_+_, _*_, _≤_};
 ghost use lib.ListN.{length};
 ghost use lib.Dec.{leb, eqb};
 ghost use Rattle.rules.specs.Plain.{_&_, zeros};
-ghost use Rattle.rules.specs.Sector.{word, decode, legal};
+ghost use Rattle.rules.specs.Sector.{word, decode, legal, sectorAt};
 ghost use Rattle.scan.specs.Words.{entry, judged};
 use rules::Entry;
 use rules::Sector;
@@ -90,7 +90,7 @@ fn judge(n: usize, head: u32, key: u32, stamp: u32, value: u32) -> Sector
 }
 
 // What a sector is, on a card of n buckets. Bytes 0..3 are read as one word: it is a kind of the table only where bytes 1..3 are zero.
-pub fn decode(s: &[u8], n: usize) -> Sector
+fn decode(s: &[u8], n: usize) -> Sector
     requires { ⌜ length (now s) ≡ 16 ⌝ }
     ensures { λ r. ⌜ r ≡ decode n (now (s .entry)) ⌝ }
 {
@@ -99,6 +99,24 @@ pub fn decode(s: &[u8], n: usize) -> Sector
     let stamp = read_word(s, 8);
     let value = read_word(s, 12);
     judge(n, head, key, stamp, value)
+}
+
+// The sixteen bytes of sector i, as a part of what was lent.
+pub fn bytes(part: &[u8], i: usize) -> &[u8]
+    requires { ⌜ 16 * i + 16 ≤ length (now part) ⌝ }
+    ensures { λ r. ⌜ (now r ≡ sectorAt (now (part .entry)) i) × (length (now r) ≡ 16) ⌝ }
+{
+    let a = 16 * i;
+    let e = a + 16;
+    &part[a..e]
+}
+
+// What sector i of a part is.
+pub fn at(part: &[u8], n: usize, i: usize) -> Sector
+    requires { ⌜ 16 * i + 16 ≤ length (now part) ⌝ }
+    ensures { λ r. ⌜ r ≡ decode n (sectorAt (now (part .entry)) i) ⌝ }
+{
+    decode(bytes(part, i), n)
 }
 
 // The larger of two bytes: zero only where both are.

@@ -3,7 +3,7 @@ use mathlib.Core.Path.{_≡_, refl, ap, ap₂, sym, _∙_}
 use mathlib.Core.Bool.{Bool, true, false}
 use mathlib.Core.List.{List, _++_}
 use Prim.Native.Nat.{ℕ, zero, suc, _+_, _-_, _*_, _≤_, _<_, max}
-use native.Mathlib.Nat.{max-zero, max-comm, mul-comm, suc-mul, add-sub-cancel-left}
+use native.Mathlib.Nat.{max-zero, max-comm, mul-comm, suc-mul}
 use native.Mathlib.Numerals.{add-one}
 use native.Mathlib.Omega.{arith}
 use lib.ListN.{length, take, drop, getD, length-drop, take-append-drop}
@@ -28,12 +28,12 @@ max-assoc : (a b c : ℕ) → max a (max b c) ≡ max (max a b) c
 max-assoc a b c = omega arith
 
 -- one sector of a bucket weighed
-pub stamp-turn : (part : List ℕ) (m i top s more R : ℕ) → i < m → max top (topStamp part i (m - i)) ≡ R → s ≡ stampOf (take (16 * i + 16 - 16 * i) (drop (16 * i) part))
+pub stamp-turn : (part : List ℕ) (m i top s more R : ℕ) → i < m → max top (topStamp part i (m - i)) ≡ R → s ≡ stampOf (sectorAt part i)
     → more ≡ max top s → max more (topStamp part (i + 1) (m - (i + 1))) ≡ R
-unfolding topStamp sectorAt
+unfolding topStamp
 stamp-turn part m i top s more R lt inv e f =
     let k : m - i ≡ suc (m - (i + 1)) = omega arith in
-    rw (f, e, add-one, add-sub-cancel-left) (sym (max-assoc _ _ _) ∙ (rw (k, add-one) at inv))
+    rw (f, e, add-one) (sym (max-assoc _ _ _) ∙ (rw (k, add-one) at inv))
 
 pub stamp-end : (part : List ℕ) (m i top R : ℕ) → m ≤ i → max top (topStamp part i (m - i)) ≡ R → top ≡ R
 unfolding topStamp

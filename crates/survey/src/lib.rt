@@ -41,8 +41,7 @@ fn top_stamp(part: &[u8], m: usize) -> u32
     let mut top: u32 = 0;
     let mut i = 0;
     while i < m {
-        let a = 16 * i;
-        let s = stamp_of(&part[a..a + 16]);
+        let s = stamp_of(sector::bytes(part, i));
         top = later(top, s);
         i += 1;
     }

@@ -3,7 +3,7 @@ use Prim.Native.Nat.{_≤_, _+_, _*_, _-_}
 use mathlib.Core.Path.{_≡_, refl, _∙_}
 use mathlib.Core.List.{_∷_}
 use native.Mathlib.Omega.{arith}
-use lib.ListN.{length, take, drop, length-take, length-drop}
+use lib.ListN.{length, take, drop}
 use denote.Ref.{now}
 use Rattle.rules.specs.Plain.{zeros}
 use Rattle.scan.specs.Scan.{sectors, allBlank, scanIn}
@@ -24,31 +24,28 @@ abbrev μ-loop : tie.MeasureT-loop
 loop-holds : tie.Need-loop-holds Inv-loop μ-loop
 loop-holds c = (search needs, refl)
 
-decode-requires : tie.Need-decode-requires Inv-loop μ-loop
-decode-requires c κs = simp (length-take, length-drop) (omega arith)
-
 -- what the sector read says of the whole scan
-turn-at : (q : tie.After-decode Inv-loop μ-loop) →
-    let turn = q .before .before .before in
+turn-at : (q : tie.After-at Inv-loop μ-loop) →
+    let turn = q .before .before in
     let a = turn .before .before .args in
-    scanIn (fits (a .quest)) (takes (a .quest)) (q .decode .result ∷ sectors (a .n) (now (a .part)) (turn .loop .i + 1) (a .count - (turn .loop .i + 1))) (turn .loop .best)
+    scanIn (fits (a .quest)) (takes (a .quest)) (q .at .result ∷ sectors (a .n) (now (a .part)) (turn .loop .i + 1) (a .count - (turn .loop .i + 1))) (turn .loop .best)
     ≡ scanIn (fits (a .quest)) (takes (a .quest)) (sectors (a .n) (now (a .part)) (a .from) (a .count - a .from)) (a .first)
 turn-at q =
-    let turn = q .before .before .before in
+    let turn = q .before .before in
     let a = turn .before .before .args in
     sectors-turn (λ l. scanIn (fits (a .quest)) (takes (a .quest)) l (turn .loop .best)) (a .n) (a .count) (turn .loop .i) (now (a .part)) _ _
-    (omega (arith, turn .loop .inv .0, q .before .before .if1 .left)) (q .decode .ensures) (turn .loop .inv .1)
+    (omega (arith, turn .loop .inv .0, q .before .if1 .left)) (q .at .ensures) (turn .loop .inv .1)
 
 -- the bytes behind it
-rest-at : (q : tie.After-decode Inv-loop μ-loop) →
-    let turn = q .before .before .before in
+rest-at : (q : tie.After-at Inv-loop μ-loop) →
+    let turn = q .before .before in
     let a = turn .before .before .args in
     zeros (take (length (now (a .part)) - (16 * turn .loop .i + 16)) (drop (16 * turn .loop .i + 16) (now (a .part))))
     ≡ allBlank (sectors (a .n) (now (a .part)) (turn .loop .i + 1) (a .count - (turn .loop .i + 1)))
 rest-at q =
-    let turn = q .before .before .before in
+    let turn = q .before .before in
     let e = turn .before .before in
-    rest-blank (e .args .n) (e .args .count) (turn .loop .i) (now (e .args .part)) (omega (arith, turn .loop .inv .0, q .before .before .if1 .left)) (e .pre .0)
+    rest-blank (e .args .n) (e .args .count) (turn .loop .i) (now (e .args .part)) (omega (arith, turn .loop .inv .0, q .before .if1 .left)) (e .pre .0)
 
 loop-again : tie.Need-loop-again Inv-loop μ-loop
 unfolding scanIn
@@ -90,7 +87,7 @@ returns-5 c =
 pub scan-from-spec : {M : Type 1} → statement M
 scan-from-spec =
     tie.close
-    (tie.spec Inv-loop μ-loop loop-holds (λ c. search needs) (λ c. search needs) (λ c. search needs) (λ c. search needs)
-    (λ c. search needs) decode-requires (λ c. search needs) (λ c. search needs) (λ c. search needs) (λ c. search needs)
-    (λ c. search needs) (λ c κs. search needs) (λ c κs. search needs) (λ c κs. search needs) (λ c. search needs)
-    (λ c. search needs) loop-again returns returns-2 returns-3 returns-4 returns-5)
+    (tie.spec Inv-loop μ-loop loop-holds (λ c κs. search needs) (λ c. search needs) (λ c. search needs)
+    (λ c. search needs) (λ c. search needs) (λ c. search needs) (λ c. search needs) (λ c. search needs)
+    (λ c κs. search needs) (λ c κs. search needs) (λ c κs. search needs) (λ c. search needs) (λ c. search needs)
+    loop-again returns returns-2 returns-3 returns-4 returns-5)

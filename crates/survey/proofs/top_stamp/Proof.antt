@@ -22,7 +22,7 @@ loop-again c =
     let turn = c .before .before .before .before in
     let o = turn .before .before in
     let l = turn .loop in
-    (search needs, stamp-turn (o .args .part .now) (o .args .m) (l .i) (l .top) _ _ _ (search needs) (l .inv .1) (c .before .stamp-of .ensures) (c .later .ensures))
+    (search needs, stamp-turn (o .args .part .now) (o .args .m) (l .i) (l .top) _ _ _ (search needs) (l .inv .1) (rw (c .before .before .bytes .ensures .0) at (c .before .stamp-of .ensures)) (c .later .ensures))
 
 returns : tie.Need-returns Inv-loop μ-loop
 returns c = let l = c .before .loop in let o = c .before .before .before in stamp-end (o .args .part .now) (o .args .m) (l .i) (l .top) _ (search needs) (l .inv .1)
@@ -30,6 +30,5 @@ returns c = let l = c .before .loop in let o = c .before .before .before in stam
 pub top-stamp-spec : {M : Type 1} → statement M
 top-stamp-spec =
     tie.close
-    (tie.spec Inv-loop μ-loop loop-holds (λ c. search needs) (λ c. search needs) (λ c. search needs) (λ c. search needs)
-    (λ c. search needs) (λ c κs. search needs) (λ c κs. search needs) (λ c. search needs) (λ c. search needs) loop-again
-    returns)
+    (tie.spec Inv-loop μ-loop loop-holds (λ c κs. search needs) (λ c κs. search needs) (λ c κs. search needs)
+    (λ c. search needs) (λ c. search needs) loop-again returns)

@@ -2,8 +2,6 @@
 use Prim.Native.Nat.{_≤_, _+_, _-_}
 use mathlib.Core.Path.{_≡_, refl, _∙_}
 use mathlib.Core.List.{_∷_}
-use native.Mathlib.Omega.{arith}
-use lib.ListN.{length-take, length-drop}
 use denote.Ref.{now}
 use Rattle.scan.specs.Scan.{sectors}
 use Rattle.scan.specs.Next.{later}
@@ -22,21 +20,18 @@ abbrev μ-loop : tie.MeasureT-loop
 loop-holds : tie.Need-loop-holds Inv-loop μ-loop
 loop-holds c = (search needs, refl)
 
-decode-requires : tie.Need-decode-requires Inv-loop μ-loop
-decode-requires c κs = simp (length-take, length-drop) (omega arith)
-
 -- what the sector read says of the whole pass
-turn-at : (q : tie.After-decode Inv-loop μ-loop) →
-    let turn = q .before .before in
+turn-at : (q : tie.After-at Inv-loop μ-loop) →
+    let turn = q .before in
     let a = turn .before .before .before .args in
     let i = turn .before .loop .i in
-    later (a .bib) (a .t) (q .decode .result ∷ sectors (a .n) (now (a .part)) (i + 1) (a .m - (i + 1)))
+    later (a .bib) (a .t) (q .at .result ∷ sectors (a .n) (now (a .part)) (i + 1) (a .m - (i + 1)))
     ≡ later (a .bib) (a .t) (sectors (a .n) (now (a .part)) (a .from) (a .m - a .from))
 turn-at q =
-    let turn = q .before .before in
+    let turn = q .before in
     let a = turn .before .before .before .args in
     sectors-turn (λ l. later (a .bib) (a .t) l) (a .n) (a .m) (turn .before .loop .i) (now (a .part)) _ _
-    (turn .loop-test .taken) (q .decode .ensures) (turn .before .loop .inv .1)
+    (turn .loop-test .taken) (q .at .ensures) (turn .before .loop .inv .1)
 
 returns : tie.Need-returns Inv-loop μ-loop
 returns c = later-other _ _ _ _ (c .match .keys2) ∙ turn-at (c .before)
@@ -62,6 +57,5 @@ returns-3 c =
 pub comes-again-spec : {M : Type 1} → statement M
 comes-again-spec =
     tie.close
-    (tie.spec Inv-loop μ-loop loop-holds (λ c. search needs) (λ c. search needs) (λ c. search needs) (λ c. search needs)
-    (λ c. search needs) decode-requires (λ c. search needs) returns (λ c κs. search needs) returns-2 (λ c. search needs)
-    (λ c. search needs) loop-again returns-3)
+    (tie.spec Inv-loop μ-loop loop-holds (λ c κs. search needs) (λ c. search needs) returns (λ c κs. search needs)
+    returns-2 (λ c. search needs) (λ c. search needs) loop-again returns-3)
