@@ -70,8 +70,7 @@ fn every_bucket_size_until_full() {
 fn the_largest_card() {
     let mut random = Random::new(77);
     let geometry = Geometry { buckets: 4096, sectors: 32, td: 2, ti: 4 };
-    let mut pair = Pair::new(77, vec![0; geometry.length()]);
-    pair.call(geometry.format());
+    let mut pair = Pair::formatted(77, geometry);
     let mut deepest = 0;
     for at in 1..=2500 {
         let bib = random.within(1, 4000);

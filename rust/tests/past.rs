@@ -68,8 +68,7 @@ fn every_past_stamp() {
         let mut random = Random::new(seed);
         let mut geometry = Geometry::random(&mut random);
         geometry.buckets = geometry.buckets.min(300);
-        let mut pair = Pair::new(seed, vec![0; geometry.length()]);
-        pair.call(geometry.format());
+        let mut pair = Pair::formatted(seed, geometry);
         let writes = random.of(&[20, 45, 90]);
         let (list, said) = grow(&mut pair, &mut random, writes);
         let (stamps, bibs) = asked(&list);
@@ -92,8 +91,7 @@ fn every_past_stamp() {
 fn every_past_stamp_and_every_bib() {
     let mut random = Random::new(5);
     let geometry = Geometry { buckets: 400, sectors: 5, td: 3, ti: 4 };
-    let mut pair = Pair::new(5, vec![0; geometry.length()]);
-    pair.call(geometry.format());
+    let mut pair = Pair::formatted(5, geometry);
     let mut list = List::default();
     for at in 1..=300 {
         let bib = 2 * random.within(1, 60);

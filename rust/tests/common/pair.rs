@@ -1,5 +1,6 @@
 //! One card under the library and under the model, every answer and every byte compared.
 
+use super::growth::Geometry;
 use super::guarded::Guarded;
 use super::LIBRARY;
 use card_model::call::{Call, MODEL};
@@ -19,6 +20,13 @@ pub struct Pair {
 impl Pair {
     pub fn new(seed: u64, card: Vec<u8>) -> Pair {
         Pair { seed, lent: Guarded::new(&card, seed as usize % 16), own: card, calls: 0, tally: [0; 10] }
+    }
+
+    /// A blank card on either side, formatted.
+    pub fn formatted(seed: u64, geometry: Geometry) -> Pair {
+        let mut pair = Pair::new(seed, vec![0; geometry.length()]);
+        pair.call(geometry.format());
+        pair
     }
 
     pub fn card(&self) -> &[u8] {
