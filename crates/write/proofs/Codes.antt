@@ -17,6 +17,8 @@ use Rattle.rules.specs.Walk.{Visit, walk, standing, standsOn, copyOf, left, dat
 use Rattle.rules.specs.Write.{Plan, refuse, refuseIf, planOn, planAt, planFor, plan, stampOn, latest}
 use Rattle.laws.proofs.Tools.{bool-cases}
 use Rattle.scan.specs.declared.Found.{Found}
+use Rattle.survey.specs.Survey.{surveyOf}
+use Rattle.survey.specs.declared.Area.{Area}
 use Rattle.scan.proofs.Picks.{hit}
 use Rattle.trail.proofs.Tracks.{trackIn}
 use Rattle.climb.specs.Levels.{upward}
@@ -84,13 +86,19 @@ module _ (card : List ℕ) (e : Entry) where
     unfolding plan planFor refuseIf
     no-bib z = rw (q, eq-eqb (e .key) 0 z)
 
-    pub stale : (e .key ≡ 0 → ⊥) → e .stamp ≤ stampOn h card → plan card e ≡ refuse 3
-    unfolding plan planFor refuseIf
-    stale ne le = rw (q, ne-eqb (e .key) 0 ne, le-leb (e .stamp) (stampOn h card) le)
+    -- by the stamp that a survey gives
+    module _ (ne : e .key ≡ 0 → ⊥) (y : Area) (is : y ≡ surveyOf h card (h .n)) where
+      seen : y .stamp ≡ stampOn h card
+      unfolding surveyOf stampOn
+      seen = ap (λ (z : Area). z .stamp) is
 
-    pub goes-in : (e .key ≡ 0 → ⊥) → stampOn h card < e .stamp → plan card e ≡ planAt h card e (walk h card latest (e .key))
-    unfolding plan planFor refuseIf
-    goes-in ne gt = rw (q, ne-eqb (e .key) 0 ne, lt-leb (e .stamp) (stampOn h card) gt)
+      pub stale : e .stamp ≤ y .stamp → plan card e ≡ refuse 3
+      unfolding plan planFor refuseIf
+      stale le = rw (q, ne-eqb (e .key) 0 ne, le-leb (e .stamp) (stampOn h card) (omega (arith, seen)))
+
+      pub goes-in : y .stamp < e .stamp → plan card e ≡ planAt h card e (walk h card latest (e .key))
+      unfolding plan planFor refuseIf
+      goes-in gt = rw (q, ne-eqb (e .key) 0 ne, lt-leb (e .stamp) (stampOn h card) (omega (arith, seen)))
 
 -- the track of a walk that came to data is its path
 pub came-path : (h : Head) (card : List ℕ) (x : ℕ) → Came h card x → trackIn x [] (walk h card latest x) .path ≡ upward (walked h card x) []
