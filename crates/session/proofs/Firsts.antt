@@ -6,6 +6,7 @@ use Prim.Native.Nat.{ℕ, _+_, _*_, _≤_, _<_}
 use native.Mathlib.Omega.{arith}
 use native.Mathlib.Nat.{mul-le-mul}
 use lib.ListN.{length, take, drop, replicate, take-append-drop}
+use lib.Seq.{length-take-le}
 use lib.Dec.{eqb}
 use borrow.Author.Tests.{le-leb, lt-leb}
 use Rattle.rules.specs.Plain.{_&_, zeros}
@@ -65,9 +66,12 @@ module _ (card : List ℕ) (n m td ti : ℕ) where
       unmade (not (limits h & eqb (length card) (sizeOf h))) (not (zeros card)) card (formatted h card) e
 
 -- the part of the buffer that was lent to the first format, back with its answer
-module _ (buffer new : List ℕ) (a : Answer) (n m td ti : ℕ) (len : ℕ) (size : len ≡ 16 * (1 + n * (m + 1))) (fits : n * (m + 1) ≤ 4095)
-    (room : Room buffer 0) (same : length new ≡ len)
+module _ {buffer new : List ℕ} {a : Answer} {len : ℕ} (n m td ti : ℕ) (size : len ≡ 16 * (1 + n * (m + 1))) (fits : n * (m + 1) ≤ 4095)
+    (room : Room buffer 0) (kept : length new ≡ length (take len buffer))
     (told : a ≡ planAnswer (format (take len buffer) n m td ti)) (left : new ≡ planCard (take len buffer) (format (take len buffer) n m td ti)) where
+  same : length new ≡ len
+  same = kept ∙ length-take-le len buffer (omega arith)
+
   whole : firstCard (format (take len buffer) n m td ti) ≡ firstFormat (sizeOf (meant n m td ti)) n m td ti
   whole =
       ap (λ (card : List ℕ). firstCard (format card n m td ti)) (blank-front buffer len room (omega arith) ∙ ap (λ (k : ℕ). replicate k 0) size)

@@ -1,12 +1,9 @@
 -- `session::first_format` makes the card that the rules make, in a buffer that holds none.
-use mathlib.Core.Path.{_≡_, refl, ap, _∙_}
-use Prim.Native.Nat.{_+_, _*_}
+use mathlib.Core.Path.{refl, ap, _∙_}
 use native.Mathlib.Omega.{arith}
 use mathlib.Core.List.{[]}
-use lib.ListN.{length, length-take}
-use lib.Seq.{length-take-le}
+use lib.ListN.{length-take}
 use borrow.Author.Needs.{needs}
-use denote.Ref.{now}
 use Rattle.rules.specs.Calls.{answered}
 use Rattle.session.proofs.Firsts.{product-fits, first-large, card-made, card-unmade}
 use Rattle.session.proofs.first_format.Statement.{statement}
@@ -25,23 +22,13 @@ slice-aggregate-format c = simp length-take (omega (arith, c .before .before .be
 
 returns-2 : tie.Need-returns-2
 returns-2 c =
-    let a = c .before .before .before .before .before .before .before .before .args in
-    let room = c .before .before .before .before .before .before .before .before .pre in
-    let fits = c .before .before .before .before .before .before .if1 .left in
-    let k = c .before .before .before .before .format in
-    let len = 16 * (1 + a .buckets * (a .sectors + 1)) in
-    let same : length (k .last .0) ≡ len = k .kept .0 ∙ length-take-le len (now (a .card)) (omega (arith, room .long)) in
-    card-made (now (a .card)) (k .last .0) (k .result) (a .buckets) (a .sectors) (a .td) (a .ti) len refl fits room same (k .ensures .0) (k .ensures .1) (c .if2 .taken)
+    let q = c .before .before .before .before in
+    card-made _ _ _ _ refl (q .before .before .if1 .left) (q .before .before .before .before .pre) (q .format .kept .0) (q .format .ensures .0) (q .format .ensures .1) (c .if2 .taken)
 
 returns-3 : tie.Need-returns-3
 returns-3 c =
-    let a = c .before .before .before .before .before .before .before .before .args in
-    let room = c .before .before .before .before .before .before .before .before .pre in
-    let fits = c .before .before .before .before .before .before .if1 .left in
-    let k = c .before .before .before .before .format in
-    let len = 16 * (1 + a .buckets * (a .sectors + 1)) in
-    let same : length (k .last .0) ≡ len = k .kept .0 ∙ length-take-le len (now (a .card)) (omega (arith, room .long)) in
-    card-unmade (now (a .card)) (k .last .0) (k .result) (a .buckets) (a .sectors) (a .td) (a .ti) len refl fits room same (k .ensures .0) (k .ensures .1) (c .if2 .left)
+    let q = c .before .before .before .before in
+    card-unmade _ _ _ _ refl (q .before .before .if1 .left) (q .before .before .before .before .pre) (q .format .kept .0) (q .format .ensures .0) (q .format .ensures .1) (c .if2 .left)
 
 pub first-format-spec : {M : Type 1} → statement M
 first-format-spec =
