@@ -36,6 +36,12 @@ module _ (line name : List ℕ) (names : List (List ℕ)) (at : ℕ) (t : Taken)
   unfolding pieceAt
   numbers-more x e q = numbers-step name names (drop at line) ∙ rw (← r, q)
 
+pub numbers-two : (line first second : List ℕ) (names : List (List ℕ)) (at : ℕ) (t u : Taken) (a e b end : ℕ)
+    → pieceAt line t ≡ fieldIn first (drop at line) → t ≡ Number a e → pieceAt line u ≡ fieldIn second (drop e line) → u ≡ Number b end
+    → numbers (first ∷ second ∷ names) (drop at line) ≡ andThen (andThen (numbers names (drop end line)) (λ xs. some (b ∷ xs))) (λ xs. some (a ∷ xs))
+numbers-two line first second names at t u a e b end r q s z =
+    numbers-more line first (second ∷ names) at t r a e q ∙ rw (numbers-more line second names e u s b end z)
+
 -- behind the last number the line ends
 pub numbers-end : (line : List ℕ) (e : ℕ) → e ≡ length line → numbers [] (drop e line) ≡ some []
 unfolding numbers
