@@ -25,7 +25,7 @@ use Rattle.laws.proofs.Heads.{Lim}
 use Rattle.tree.proofs.Tree.{Early, Kids, Reading, Shape, Span, Tree, tree-frame, tree-not, turn-data, turn-index}
 use Rattle.tree.proofs.Pairs.{away, away-tree, kids-one, kids-two, same-upper}
 use Rattle.tree.proofs.Content.{content-fresh}
-use Rattle.tree.proofs.Outcome.{Closed, One, Outcome, Two}
+use Rattle.tree.proofs.Outcome.{Closed, One, Open, Outcome, Two}
 use Rattle.tree.proofs.Level.{Before, place-level}
 use Rattle.tree.proofs.AsOf.{Late}
 use Rattle.tree.proofs.Ready.{Ready}
@@ -188,6 +188,28 @@ module _ (h : Head) (lim : Lim h) (card : List ℕ) (g : ℕ → Option Entry) (
         go [] s = absurd (s .0)
         go (x ∷ xs) s = (s .0, all-append (Span true lo hi) (x ∷ xs) ps (s .1) a)
 
+    -- the pairs that came up from below stand for the child
+    came-up : (r : Rise) (ps : List Entry) → 1 ≤ r .fresh → r .hand ≡ ps → Open h card (r .card) (e .stamp) (r .fresh)
+        → Late (e .stamp) ps → All (Span true lo hi) ps → Kids (bucket h (r .card)) (upd g e) k (es ++ ps) lo hi → Good (h .n) ps → length ps ≤ 2
+        → Before h card g (upd g e) (suc k) b lo hi (e .stamp) r es
+    came-up r ps lf hand o late span kids good most =
+        record {
+          lim = lim;
+          same1 = o .same;
+          late = rw hand late;
+          added = inr (o .mark);
+          ready1 = o .ready;
+          fresh1 = lf;
+          here = tr .1;
+          old = tr;
+          range = (lt, h32, fine .0 .stamp);
+          heads = tr .2 .0;
+          shape = rw hand (shape-more ps span);
+          content = rw hand kids;
+          good = rw hand good;
+          atmost = rw hand most;
+        }
+
     -- below, one new bucket stands for the child, or two
     one-up : (r : Rise) (p : Entry) → 1 ≤ r .fresh → r .hand ≡ p ∷ [] → One h card (r .card) (upd g e) k (d .key) u (e .stamp) (r .fresh) p
         → Before h card g (upd g e) (suc k) b lo hi (e .stamp) r es
@@ -197,25 +219,8 @@ module _ (h : Head) (lim : Lim h) (card : List ℕ) (g : ℕ → Option Entry) (
         let pk = pr .0 in
         let span = follow-all (Span true lo hi) (e .key) es d (tr .2 .1) sd in
         let kids1 = content-fresh (bucket h card) rd1 g (o .opened .same) (suc k) lo hi es (tr .3) in
-        let sp : All (Span true lo hi) (p ∷ []) = ((pr .1, omega arith, omega arith, pr .1), tt) in
-        let t1 : Tree rd1 (upd g e) k (p .value) (p .key) u = rw pk (o .tree1) in
-        let gd : Good (h .n) (p ∷ []) = (pr .2, tt) in
-        record {
-          lim = lim;
-          same1 = o .opened .same;
-          late = subst (Late (e .stamp)) (sym hand) (let z = pr .3 in (omega arith, tt));
-          added = inr (o .opened .mark);
-          ready1 = o .opened .ready;
-          fresh1 = lf;
-          here = tr .1;
-          old = tr;
-          range = (lt, h32, fine .0 .stamp);
-          heads = tr .2 .0;
-          shape = subst (λ z. Shape true lo hi (es ++ z)) (sym hand) (shape-more (p ∷ []) sp);
-          content = subst (λ z. Kids rd1 (upd g e) k (es ++ z) lo hi) (sym hand) (kids-one rd1 g (upd g e) k lo hi es kids1 (e .key) d sd outside p pk t1);
-          good = subst (Good (h .n)) (sym hand) gd;
-          atmost = subst (λ z. length z ≤ 2) (sym hand) (omega arith);
-        }
+        came-up r (p ∷ []) lf hand (o .opened) (omega arith, tt) ((pr .1, omega arith, omega arith, pr .1), tt)
+        (kids-one rd1 g (upd g e) k lo hi es kids1 (e .key) d sd outside p pk (rw pk (o .tree1))) (pr .2, tt) (omega arith)
 
     two-up : (r : Rise) (p q : Entry) → 1 ≤ r .fresh → r .hand ≡ p ∷ q ∷ [] → Two h card (r .card) (upd g e) k (d .key) u (e .stamp) (r .fresh) p q
         → Before h card g (upd g e) (suc k) b lo hi (e .stamp) r es
@@ -228,27 +233,10 @@ module _ (h : Head) (lim : Lim h) (card : List ℕ) (g : ℕ → Option Entry) (
         let ul = upper-le (e .key) es hi in
         let span = follow-all (Span true lo hi) (e .key) es d (tr .2 .1) sd in
         let kids1 = content-fresh (bucket h card) rd1 g (o .opened .same) (suc k) lo hi es (tr .3) in
-        let sp : All (Span true lo hi) (p ∷ q ∷ []) = ((pr .1, omega arith, omega arith, pr .1), ((qr .1, omega arith, omega arith, qr .1), tt)) in
-        let t1 : Tree rd1 (upd g e) k (p .value) (p .key) (q .key) = rw pk (o .tree1) in
-        let gd : Good (h .n) (p ∷ q ∷ []) = (pr .2, (qr .2, tt)) in
-        record {
-          lim = lim;
-          same1 = o .opened .same;
-          late = subst (Late (e .stamp)) (sym hand) (let y = pr .3 in let z = qr .3 in (omega arith, (omega arith, tt)));
-          added = inr (o .opened .mark);
-          ready1 = o .opened .ready;
-          fresh1 = lf;
-          here = tr .1;
-          old = tr;
-          range = (lt, h32, fine .0 .stamp);
-          heads = tr .2 .0;
-          shape = subst (λ z. Shape true lo hi (es ++ z)) (sym hand) (shape-more (p ∷ q ∷ []) sp);
-          content = subst (λ z. Kids rd1 (upd g e) k (es ++ z) lo hi) (sym hand)
-              (subst (λ z. Kids rd1 (upd g e) k z lo hi) (append-assoc es (p ∷ []) (q ∷ []))
-              (kids-two rd1 g (upd g e) k lo hi es kids1 (e .key) d sd outside p q pk (md .0) (md .1) t1 (o .tree2)));
-          good = subst (Good (h .n)) (sym hand) gd;
-          atmost = subst (λ z. length z ≤ 2) (sym hand) (omega arith);
-        }
+        came-up r (p ∷ q ∷ []) lf hand (o .opened) (omega arith, (omega arith, tt)) ((pr .1, omega arith, omega arith, pr .1), ((qr .1, omega arith, omega arith, qr .1), tt))
+        (subst (λ z. Kids rd1 (upd g e) k z lo hi) (append-assoc es (p ∷ []) (q ∷ []))
+        (kids-two rd1 g (upd g e) k lo hi es kids1 (e .key) d sd outside p q pk (md .0) (md .1) (rw pk (o .tree1)) (o .tree2)))
+        (pr .2, (qr .2, tt)) (omega arith)
 
     -- from the outcome below to the one here
     up : (r : Rise) → 1 ≤ r .fresh → Outcome h card g (upd g e) k (d .value) (d .key) u (e .stamp) r
