@@ -1,7 +1,7 @@
 -- `roll::counted` counts the records of a roll. Those counted and the roll that is left give what the whole roll gives.
 use borrow.Author.Needs.{needs}
 use mathlib.Core.Path.{_≡_}
-use Prim.Native.Nat.{_+_, _-_, _≤_}
+use Prim.Native.Nat.{_-_, _≤_}
 use denote.Ref.{now}
 use Rattle.scroll.specs.Records.{rolled, tallyOf}
 use Rattle.scroll.proofs.Rolls.{tallyAfter, count-start, count-stop, count-more, count-end}
