@@ -1,7 +1,7 @@
 // A time as the panel's digits, or the refusal that keeps a wrong one dark.
 use rules::Digits;
 ghost use mathlib.Core.Path.{_≡_};
-ghost use mathlib.Core.Bool.{true, false};
+ghost use mathlib.Core.Bool.{false};
 ghost use mathlib.Core.List.{_∷_, [], _++_};
 ghost use lib.Dec.{leb};
 ghost use Rattle.rules.specs.Panel.{panel, panelOf, shown, seconds, minute, tenMinutes};

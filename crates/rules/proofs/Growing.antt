@@ -29,6 +29,35 @@ ok k = says k (answer 0 0 0 0 0)
 abbrev nothing : List ℕ
 nothing = 0 ∷ 0 ∷ 0 ∷ 0 ∷ 0 ∷ 0 ∷ []
 
+-- a card of n buckets with all that comes before (d), and what follows
+abbrev upTo90 : ℕ → List Line → List Line
+upTo90 n more =
+    anew
+    ∷ ok (formatCall n 4 3 4)
+    ∷ ok (postCall 8 10 61230)
+    ∷ ok (postCall 3 20 58900)
+    ∷ ok (postCall 11 30 59990)
+    ∷ ok (postCall 5 40 60000)
+    ∷ ok (strikeCall 8 50)
+    ∷ ok (postCall 11 60 1)
+    ∷ ok (postCall 11 70 2)
+    ∷ ok (postCall 12 80 3)
+    ∷ ok (postCall 13 90 4)
+    ∷ more
+
+-- the six panel values, with the two refusals beside them
+abbrev panels : List Line
+panels =
+    shows 59999 4 0 (5 ∷ 9 ∷ 9 ∷ 9 ∷ 0 ∷ 0 ∷ [])
+    ∷ shows 60000 4 7 nothing
+    ∷ shows 60000 5 0 (1 ∷ 0 ∷ 0 ∷ 0 ∷ 0 ∷ 0 ∷ [])
+    ∷ shows 599999 5 0 (9 ∷ 5 ∷ 9 ∷ 9 ∷ 9 ∷ 0 ∷ [])
+    ∷ shows 600000 5 7 nothing
+    ∷ shows 600000 6 0 (1 ∷ 0 ∷ 0 ∷ 0 ∷ 0 ∷ 0 ∷ [])
+    ∷ shows 5999999 6 0 (9 ∷ 9 ∷ 5 ∷ 9 ∷ 9 ∷ 9 ∷ [])
+    ∷ shows 6000000 6 7 nothing
+    ∷ []
+
 abbrev pub growing : List Line
 growing =
     -- the card of the bench session
@@ -87,45 +116,8 @@ growing =
     ∷ says (lookCall 11 59) (answer 0 11 30 59990 2)
     ∷ says (lookCall 8 130) (answer 0 8 0 0 3)
     ∷ says (lookCall 8 99) (answer 0 8 0 0 2)
-    -- (d) with N = 7 that last post is answer 6, and the card stays
-    ∷ anew
-    ∷ ok (formatCall 7 4 3 4)
-    ∷ ok (postCall 8 10 61230)
-    ∷ ok (postCall 3 20 58900)
-    ∷ ok (postCall 11 30 59990)
-    ∷ ok (postCall 5 40 60000)
-    ∷ ok (strikeCall 8 50)
-    ∷ ok (postCall 11 60 1)
-    ∷ ok (postCall 11 70 2)
-    ∷ ok (postCall 12 80 3)
-    ∷ ok (postCall 13 90 4)
-    ∷ says (postCall 14 100 5) (refused 6)
-    ∷ used 5
-    ∷ logs (root 0 1 ∷ Blank ∷ [])
-    -- (d) with N = 8 it is accepted
-    ∷ anew
-    ∷ ok (formatCall 8 4 3 4)
-    ∷ ok (postCall 8 10 61230)
-    ∷ ok (postCall 3 20 58900)
-    ∷ ok (postCall 11 30 59990)
-    ∷ ok (postCall 5 40 60000)
-    ∷ ok (strikeCall 8 50)
-    ∷ ok (postCall 11 60 1)
-    ∷ ok (postCall 11 70 2)
-    ∷ ok (postCall 12 80 3)
-    ∷ ok (postCall 13 90 4)
-    ∷ ok (postCall 14 100 5)
-    ∷ used 8
-    -- the six panel values, with the two refusals beside them
-    ∷ shows 59999 4 0 (5 ∷ 9 ∷ 9 ∷ 9 ∷ 0 ∷ 0 ∷ [])
-    ∷ shows 60000 4 7 nothing
-    ∷ shows 60000 5 0 (1 ∷ 0 ∷ 0 ∷ 0 ∷ 0 ∷ 0 ∷ [])
-    ∷ shows 599999 5 0 (9 ∷ 5 ∷ 9 ∷ 9 ∷ 9 ∷ 0 ∷ [])
-    ∷ shows 600000 5 7 nothing
-    ∷ shows 600000 6 0 (1 ∷ 0 ∷ 0 ∷ 0 ∷ 0 ∷ 0 ∷ [])
-    ∷ shows 5999999 6 0 (9 ∷ 9 ∷ 5 ∷ 9 ∷ 9 ∷ 9 ∷ [])
-    ∷ shows 6000000 6 7 nothing
-    ∷ []
+    -- (d) with N = 7 that last post is answer 6, and the card stays; with N = 8 it is accepted
+    ∷ upTo90 7 (says (postCall 14 100 5) (refused 6) ∷ used 5 ∷ logs (root 0 1 ∷ Blank ∷ []) ∷ upTo90 8 (ok (postCall 14 100 5) ∷ used 8 ∷ panels))
 
 pub growing-passes : T (passes [] growing)
 unfolding rules

@@ -2,10 +2,10 @@
 use Prim.Native.Nat.{ℕ, zero, suc, _+_, _*_, _-_, _/_, _%_}
 use Prim.Native.Char.{code}
 use Prim.Native.String as S
-use mathlib.Core.Bool.{Bool, true, false, not}
+use mathlib.Core.Bool.{Bool, true, false}
 use mathlib.Core.List.{List, [], _∷_, _++_}
 use mathlib.Core.Option.{Option, none, some}
-use lib.ListN.{length, replicate}
+use lib.ListN.{replicate}
 use lib.Dec.{leb, ltb, eqb}
 use Rattle.rules.specs.declared.Answer.{Answer}
 use Rattle.rules.specs.Plain.{if, andThen, within}
