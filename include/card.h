@@ -27,6 +27,12 @@ struct Answer {
     uint32_t reads; /* buckets read, in card_look only */
 };
 
+/* The answer of card_records. */
+struct Tally {
+    uint32_t code; /* 0, or the number of a refusal */
+    size_t count;  /* records laid down */
+};
+
 /* The answer of the panel routine. */
 struct Digits {
     uint32_t code;     /* 0 or 7 */
@@ -70,6 +76,15 @@ struct Answer card_look(const uint8_t *card, size_t len, uint32_t bib, uint32_t 
  * Refused: 1, head or length breaks the layout; 4, damage met on the log or path.
  * Leaves the card as it was. */
 struct Answer card_next(const uint8_t *card, size_t len, uint32_t bib, uint32_t at);
+
+/* The records that card_next gives one after the other above `bib`, laid down at `out` as post sectors
+ * of 16 bytes, as many as there are and as fit whole into its `room` bytes. Byte 0 is 1, bytes 1 to 3
+ * are 0, and bib, stamp and time follow, each of 4 bytes, low first. The bytes behind the last record
+ * stay as they were. `out` is not null, its bytes can be read and written, and none of them is the card's.
+ * Refused as card_next is, where a refusal is met before `out` is full; then no byte of `out` is written.
+ * Leaves the card as it was. */
+struct Tally card_records(const uint8_t *card, size_t len, uint32_t bib, uint32_t at, uint8_t *out,
+                          size_t room);
 
 /* The digits of a time in thousandths on a panel field of 4 (seconds, hundredths), 5 (a minute
  * digit before them) or 6 (two) places. The thousandths digit is dropped.

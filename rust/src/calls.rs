@@ -103,6 +103,26 @@ pub fn next(card: &[u8], bib: u32, at: u32) -> Result<Option<Record>, Refusal> {
     accepted(numbers::next(card, bib, at)).map(Record::of)
 }
 
+/// Lays the records that [`next`] gives one after the other above `bib` down at the start of `out`, as post
+/// sectors of 16 bytes, as many as there are and as fit, and gives their number. The bytes behind them stay.
+///
+/// Refused as [`next`] is, where a refusal is met before `out` is full; then `out` is as it was.
+///
+/// ```
+/// # use card::{Refusal, Shape};
+/// # let mut bytes = vec![0; Shape::new(16, 4).bytes().unwrap()];
+/// # card::format(&mut bytes, Shape::new(16, 4))?;
+/// card::post(&mut bytes, 7, 100, 59_990)?;
+/// let mut out = [0; 32];
+/// assert_eq!(card::records(&bytes, 0, 100, &mut out)?, 1);
+/// assert_eq!(out[..8], [1, 0, 0, 0, 7, 0, 0, 0]);
+/// # Ok::<(), Refusal>(())
+/// ```
+pub fn records(card: &[u8], bib: u32, at: u32, out: &mut [u8]) -> Result<usize, Refusal> {
+    let tally = numbers::records(card, bib, at, out);
+    refused(tally.code).map_or(Ok(tally.count), Err)
+}
+
 /// The digits of a time in thousandths on a panel field of 4, 5 or 6 places: seconds and
 /// hundredths, then one or two minute digits. The thousandths digit is dropped.
 ///

@@ -35,7 +35,7 @@ mod refusal;
 mod scroll;
 mod shape;
 
-pub use calls::{digits, format, look, next, post, strike};
+pub use calls::{digits, format, look, next, post, records, strike};
 pub use panel::Panel;
 pub use record::{Look, Record};
 pub use refusal::Refusal;

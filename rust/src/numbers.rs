@@ -14,6 +14,14 @@ pub struct Answer {
     pub reads: u32,
 }
 
+/// The answer to [`records`]: its number, 0 or a refusal, and how many were laid down.
+#[repr(C)]
+#[derive(Clone, Copy, Debug, Default, PartialEq, Eq)]
+pub struct Tally {
+    pub code: u32,
+    pub count: usize,
+}
+
 /// The panel routine's answer: its number, 0 or 7, and six places, all zero beside a refusal.
 #[repr(C)]
 #[derive(Clone, Copy, Debug, Default, PartialEq, Eq)]
@@ -23,10 +31,10 @@ pub struct Digits {
 }
 
 // as include/card.h has them
-const _: () = assert!(size_of::<Answer>() == 20 && size_of::<Digits>() == 12);
+const _: () = assert!(size_of::<Answer>() == 20 && size_of::<Digits>() == 12 && size_of::<Tally>() == 16);
 
 mod library {
-    use super::{Answer, Digits};
+    use super::{Answer, Digits, Tally};
 
     extern "C" {
         pub fn card_format(card: *mut u8, len: usize, buckets: u32, sectors: u32, td: u32, ti: u32)
@@ -35,12 +43,14 @@ mod library {
         pub fn card_strike(card: *mut u8, len: usize, bib: u32, at: u32) -> Answer;
         pub fn card_look(card: *const u8, len: usize, bib: u32, at: u32) -> Answer;
         pub fn card_next(card: *const u8, len: usize, bib: u32, at: u32) -> Answer;
+        pub fn card_records(card: *const u8, len: usize, bib: u32, at: u32, out: *mut u8, room: usize) -> Tally;
         pub fn card_digits(time: u32, field: u32) -> Digits;
     }
 }
 
 // Each call below is sound for one reason: the library takes every card and every number, and it
-// reads and writes only the `len` bytes from `card`, which the slice lends for the call alone.
+// reads and writes only the `len` bytes from `card` and the `room` bytes from `out`, which the slices
+// lend for the call alone.
 
 /// As [`crate::format`].
 pub fn format(card: &mut [u8], buckets: u32, sectors: u32, td: u32, ti: u32) -> Answer {
@@ -65,6 +75,11 @@ pub fn look(card: &[u8], bib: u32, at: u32) -> Answer {
 /// As [`crate::next`].
 pub fn next(card: &[u8], bib: u32, at: u32) -> Answer {
     unsafe { library::card_next(card.as_ptr(), card.len(), bib, at) }
+}
+
+/// As [`crate::records`].
+pub fn records(card: &[u8], bib: u32, at: u32, out: &mut [u8]) -> Tally {
+    unsafe { library::card_records(card.as_ptr(), card.len(), bib, at, out.as_mut_ptr(), out.len()) }
 }
 
 /// As [`crate::digits`].

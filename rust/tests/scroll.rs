@@ -1,10 +1,15 @@
-//! A scroll gives every standing record once, by rising bib, as of any stamp.
+//! A scroll gives every standing record once, by rising bib, as of any stamp; so does a row of records in a
+//! lent buffer.
 
 mod common;
 
 use card::{Record, Refusal, Shape};
+use card::numbers::Tally;
 use card_model::list::{List, Said};
+use common::guarded::Guarded;
+use common::mutate::damage;
 use common::random::Random;
+use common::{foreign, rounds};
 
 /// A card of 200 writes on bibs 1 to 50, and the list of them.
 fn grown() -> (Vec<u8>, List) {
@@ -47,4 +52,64 @@ fn a_refusal_ends_it() {
     assert!(steps.len() <= whole);
     assert_eq!(steps.iter().filter(|step| step.is_err()).count(), 1);
     assert_eq!(steps.last(), Some(&Err(Refusal::Damage)));
+}
+
+/// What a row of records answers and leaves in the buffer, by the second implementation's next.
+fn row(card: &[u8], bib: u32, at: u32, out: &mut [u8]) -> Tally {
+    let (mut last, mut laid) = (bib, Vec::new());
+    for _ in 0..out.len() / 16 {
+        let answer = card_model::next(card, last, at);
+        if answer.code != 0 {
+            return Tally { code: answer.code, count: 0 };
+        }
+        if answer.bib == 0 {
+            break;
+        }
+        last = answer.bib;
+        laid.extend([1, answer.bib, answer.at, answer.time].map(u32::to_le_bytes).concat());
+    }
+    out[..laid.len()].copy_from_slice(&laid);
+    Tally { code: 0, count: laid.len() / 16 }
+}
+
+/// Both on one buffer, every byte compared, those around it too.
+fn compared(card: &[u8], bib: u32, at: u32, out: &mut [u8]) -> Tally {
+    let mut lent = Guarded::new(out, at as usize % 16);
+    let given = card::numbers::records(card, bib, at, lent.card_mut());
+    let expected = row(card, bib, at, out);
+    assert_eq!((given, lent.card()), (expected, &*out), "above {bib} as of {at}");
+    assert!(lent.whole(), "a byte beside the buffer, above {bib} as of {at}");
+    given
+}
+
+#[test]
+fn in_a_row_from_every_bib() {
+    let (bytes, _) = grown();
+    for at in [0, 1, 40, 117, 200, u32::MAX] {
+        for bib in (0..=51).chain([u32::MAX]) {
+            for room in [0, 1, 15, 16, 17, 31, 160, 16 * 60 + 5] {
+                compared(&bytes, bib, at, &mut vec![0x5a; room]);
+            }
+        }
+    }
+}
+
+/// A refusal on the way leaves the buffer as it was.
+#[test]
+fn in_a_row_on_cards_not_of_our_making() {
+    rounds("rows of records", 6, &[0, 1, 4], |seed| {
+        let mut random = Random::new(seed);
+        let mut card = foreign::card(&mut random);
+        for _ in 0..random.of(&[0, 1, 2]) {
+            damage(&mut card, &mut random);
+        }
+        let mut tally = [0; 10];
+        for _ in 0..8 {
+            let (bib, room) = (random.of(&[0, 0, 1, 5, 20]), random.within(0, 200));
+            let at = if random.chance(50) { u32::MAX } else { random.within(0, 62) };
+            let mut out: Vec<u8> = (0..room).map(|_| random.any() as u8).collect();
+            tally[compared(&card, bib, at, &mut out).code as usize] += 1;
+        }
+        tally
+    });
 }

@@ -1,12 +1,17 @@
-// The card for C and Rust: the six calls, exported. Each takes every input, and its contract is the rule.
+// The card for C and Rust: the six calls and the scroll's records, exported. Each takes every input, and its contract is the rule.
 use rules::Answer;
 use rules::Digits;
+use scroll::Tally;
 ghost use mathlib.Core.Path.{_≡_};
+ghost use Prim.Native.Nat.{_/_};
+ghost use lib.ListN.{length};
 ghost use Rattle.rules.specs.Look.{look};
 ghost use Rattle.rules.specs.Next.{next};
 ghost use Rattle.rules.specs.Panel.{panel};
 ghost use Rattle.rules.specs.Format.{format};
 ghost use Rattle.rules.specs.Write.{planAnswer, planCard, post, strike};
+ghost use Rattle.writer.specs.Rows.{puts};
+ghost use Rattle.scroll.specs.Records.{rolled, given, tallyOf};
 
 #[no_mangle]
 pub extern "C" fn card_format(
@@ -50,6 +55,14 @@ pub extern "C" fn card_next(card: &[u8], bib: u32, at: u32) -> Answer
     ensures { λ r. ⌜ r ≡ next (now (card .entry)) bib at ⌝ }
 {
     next::next(card, bib, at)
+}
+
+#[no_mangle]
+pub extern "C" fn card_records(card: &[u8], bib: u32, at: u32, out: &mut [u8]) -> Tally
+    ensures { λ r. ⌜ r ≡ tallyOf (given (rolled (now (card .entry)) at (length (now (out .entry)) / 16) bib)) ⌝ }
+    ensures { λ _. ⌜ now (out .exit) ≡ puts (now (out .entry)) 0 (given (rolled (now (card .entry)) at (length (now (out .entry)) / 16) bib) .records) ⌝ }
+{
+    scroll::records(card, bib, at, out)
 }
 
 #[no_mangle]
