@@ -1,7 +1,8 @@
 // The buckets and the log of a card, as parts of it, and the search of one of them.
 ghost use mathlib.Core.Path.{_≡_};
 ghost use Prim.Native.Nat.{_-_, _*_, _≤_};
-ghost use lib.ListN.{length};
+ghost use lib.ListN.{length, drop};
+ghost use Rattle.rules.specs.Layout.{base};
 ghost use Rattle.scan.specs.Scan.{sectors, scanIn, search, searchLog};
 ghost use Rattle.scan.specs.Look.{partOf, logOf, searchAt};
 ghost use Rattle.bucket.specs.Quests.{fits, takes, bucketQuest, logQuest};
@@ -25,15 +26,25 @@ pub struct Quest {
     pub stamp: u32,
 }
 
-// The m x 16 bytes of bucket b, as a part of the card that was lent.
+// The bytes from bucket b to the card's end, as a part of the card that was lent.
+pub fn from_bucket(card: &[u8], head: Head, b: u32) -> &[u8]
+    requires { ⌜ Shape head (now card) ⌝ }
+    requires { ⌜ (1 ≤ b) × (b ≤ head .n) ⌝ }
+    ensures { λ r. ⌜ (now r ≡ drop (16 * base head b) (now (card .entry))) × (16 * head .m ≤ length (now r)) ⌝ }
+{
+    let a = 16 * (1 + head.n + head.m * (b as usize - 1));
+    &card[a..]
+}
+
+// The m x 16 bytes of bucket b.
 pub fn bucket_part(card: &[u8], head: Head, b: u32) -> &[u8]
     requires { ⌜ Shape head (now card) ⌝ }
     requires { ⌜ (1 ≤ b) × (b ≤ head .n) ⌝ }
     ensures { λ r. ⌜ (now r ≡ partOf head (now (card .entry)) b) × (length (now r) ≡ 16 * head .m) ⌝ }
 {
-    let a = 16 * (1 + head.n + head.m * (b as usize - 1));
-    let e = a + 16 * head.m;
-    &card[a..e]
+    let rest = from_bucket(card, head, b);
+    let e = 16 * head.m;
+    &rest[0..e]
 }
 
 // The n x 16 bytes of the root log.

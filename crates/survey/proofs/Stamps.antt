@@ -3,7 +3,7 @@ use mathlib.Core.Path.{_≡_, refl, ap, ap₂, sym, _∙_}
 use mathlib.Core.Bool.{Bool, true, false}
 use mathlib.Core.List.{List, _++_}
 use Prim.Native.Nat.{ℕ, zero, suc, _+_, _-_, _*_, _≤_, _<_, max}
-use native.Mathlib.Nat.{max-zero, max-comm, mul-comm, suc-mul}
+use native.Mathlib.Nat.{max-zero, max-comm, mul-comm, mul-add, suc-mul}
 use native.Mathlib.Numerals.{add-one}
 use native.Mathlib.Omega.{arith}
 use lib.ListN.{length, take, drop, getD, length-drop, take-append-drop}
@@ -20,7 +20,7 @@ use Rattle.laws.proofs.Heads.{bucket-fits}
 use Rattle.scan.specs.Look.{partOf}
 use Rattle.scan.proofs.Blanks.{zeros-append}
 use Rattle.scan.proofs.Parts.{sector-part}
-use Rattle.laws.proofs.Zeros.{zeros-get}
+use Rattle.laws.proofs.Zeros.{zeros-get, zero-take, zero-drop}
 use Rattle.bucket.specs.Shapes.{Shape}
 use Rattle.survey.specs.Survey.{surveyOf}
 
@@ -130,6 +130,24 @@ module _ (h : Head) (card : List ℕ) (b : ℕ) (sh : Shape h card) (lt : b < h 
       let p : topStamp card (base h (b + 1)) (h .m) ≡ topStamp (partOf h card (b + 1)) 0 (h .m) =
       sym (part-stamp card (base h (b + 1)) (h .m) 0 (h .m) fits (omega arith) ∙ ap (λ (k : ℕ). topStamp card k (h .m)) (let y : base h (b + 1) + 0 ≡ base h (b + 1) = omega arith in y)) in
       ap₂ (λ (s u : ℕ). record { stamp = s; used = u }) (next-stamp ∙ ap (max (topStamp card (1 + h .n) (b * h .m))) p) (used-here h card b u)
+
+-- nothing behind bucket b: what b buckets hold is what all hold
+module _ (h : Head) (card : List ℕ) (b : ℕ) (sh : Shape h card) (blank : zeros (drop (16 * base h (b + 1)) card) ≡ true) where
+  behind : (k : ℕ) → zeros (partOf h card (b + k + 1)) ≡ true
+  unfolding partOf base
+  behind k =
+      let more : h .m * (b + k) ≡ h .m * b + h .m * k = mul-add (h .m) b k in
+      let here : b + 1 - 1 ≡ b = omega arith in
+      let there : b + k + 1 - 1 ≡ b + k = omega arith in
+      let far : 16 * (1 + h .n + h .m * (b + 1 - 1)) + 16 * (h .m * k) ≡ 16 * (1 + h .n + h .m * (b + k + 1 - 1)) = rw (here, there, more) (omega arith) in
+      zero-take (16 * h .m) _ (rw (drop-drop, far) at (zero-drop (16 * (h .m * k)) _ blank))
+
+  up : (k : ℕ) → b + k ≤ h .n → surveyOf h card (b + k) ≡ surveyOf h card b
+  up zero le = ap (surveyOf h card) (let z : b + 0 ≡ b = omega arith in z)
+  up (suc k) le = ap (surveyOf h card) (let z : b + suc k ≡ b + k + 1 = omega arith in z) ∙ survey-blank h card (b + k) sh (omega arith) (behind k) ∙ up k (omega arith)
+
+  pub survey-rest : b ≤ h .n → surveyOf h card (h .n) ≡ surveyOf h card b
+  survey-rest le = ap (surveyOf h card) (let z : h .n ≡ b + (h .n - b) = omega arith in z) ∙ up (h .n - b) (omega arith)
 
 pub survey-none : (h : Head) (card : List ℕ) → record { stamp = 0; used = 0 } ≡ surveyOf h card 0
 unfolding surveyOf topStamp topUsed

@@ -48,12 +48,33 @@ fn top_stamp(part: &[u8], m: usize) -> u32
     top
 }
 
+// So many buckets that no byte behind them is nonzero. Of a card we wrote they are the ones before the first that is blank,
+// and all behind it is asked at one go; of any other card they may be all.
+fn written(card: &[u8], head: Head) -> usize
+    requires { ⌜ Shape head (now card) ⌝ }
+    ensures { λ r. ⌜ (r ≤ head .n) × (surveyOf head (now (card .entry)) (head .n) ≡ surveyOf head (now (card .entry)) r) ⌝ }
+{
+    let n = head.n;
+    let mut b = 0;
+    while b < n {
+        let rest = bucket::from_bucket(card, head, b as u32 + 1);
+        if rest[0] == 0 {
+            if sector::all_zero(rest) {
+                return b;
+            }
+            return n;
+        }
+        b += 1;
+    }
+    n
+}
+
 // A bucket of zeros is passed over: it has neither a stamp nor a nonzero byte.
 pub fn survey(card: &[u8], head: Head) -> Area
     requires { ⌜ Shape head (now card) ⌝ }
     ensures { λ r. ⌜ r ≡ surveyOf head (now (card .entry)) (head .n) ⌝ }
 {
-    let n = head.n;
+    let n = written(card, head);
     let m = head.m;
     let mut stamp: u32 = 0;
     let mut used = 0;

@@ -21,19 +21,19 @@ abbrev μ-loop : tie.MeasureT-loop
 μ-loop card head n m stamp₀ used₀ b₀ stamp used b = n - b
 
 loop-holds : tie.Need-loop-holds Inv-loop μ-loop
-loop-holds c = (search needs, survey-none (c .before .args .head) (c .before .args .card .now))
+loop-holds c = (search needs, survey-none (c .before .before .args .head) (c .before .before .args .card .now))
 
 cast-bucket-part : tie.Need-cast-bucket-part Inv-loop μ-loop
-cast-bucket-part c = omega (arith, c .before .before .before .pre .lim .n4096)
+cast-bucket-part c = omega (arith, c .before .before .before .before .pre .lim .n4096)
 
 bucket-part-requires : tie.Need-bucket-part-requires Inv-loop μ-loop
-bucket-part-requires c κs = (c .before .before .before .pre, (omega arith, omega arith))
+bucket-part-requires c κs = (c .before .before .before .before .pre, (omega arith, omega arith))
 
 loop-again : tie.Need-loop-again Inv-loop μ-loop
 loop-again c =
     let at-bucket-part = c .before .before in
     let turn = at-bucket-part .before .before in
-    let o = turn .before .before in
+    let o = turn .before .before .before in
     let l = turn .loop in
     (search needs, l .inv .1 ∙ sym (survey-blank (o .args .head) (o .args .card .now) (l .b) (o .pre) (search needs) (ap zeros (sym (at-bucket-part .bucket-part .ensures .0)) ∙ sym (c .before .all-zero .ensures) ∙ c .if1 .taken)))
 
@@ -43,7 +43,7 @@ loop-again-2 c =
     let at-all-zero = at-if1 .before in
     let at-bucket-part = at-all-zero .before in
     let turn = at-bucket-part .before .before in
-    let o = turn .before .before in
+    let o = turn .before .before .before in
     let l = turn .loop in
     let part = at-bucket-part .bucket-part .ensures .0 in
     let s = c .later .ensures ∙ ap₂ max (ap (λ (a : Area). a .stamp) (l .inv .1)) (c .before .top-stamp .ensures ∙ ap (λ (p : List ℕ). topStamp p 0 (o .args .head .m)) part) in (
@@ -55,12 +55,13 @@ loop-again-2 c =
 returns : tie.Need-returns Inv-loop μ-loop
 returns c =
     let l = c .before .loop in
-    let o = c .before .before .before in
-    l .inv .1 ∙ ap (surveyOf (o .args .head) (o .args .card .now)) (let z : l .b ≡ o .args .head .n = omega arith in z)
+    let last = c .before .before .written in
+    let o = c .before .before .before .before in
+    l .inv .1 ∙ ap (surveyOf (o .args .head) (o .args .card .now)) (let z : l .b ≡ last .result = omega arith in z) ∙ sym (last .ensures .1)
 
 pub survey-spec : {M : Type 1} → statement M
 survey-spec =
     tie.close
-    (tie.spec Inv-loop μ-loop loop-holds (λ c. search needs) cast-bucket-part bucket-part-requires
-    (λ c κs. search needs) (λ c. search needs) loop-again (λ c κs. search needs) (λ c κs. search needs)
-    (λ c. search needs) loop-again-2 returns)
+    (tie.spec Inv-loop μ-loop (λ c κs. search needs) loop-holds (λ c. search needs) cast-bucket-part
+    bucket-part-requires (λ c κs. search needs) (λ c. search needs) loop-again (λ c κs. search needs)
+    (λ c κs. search needs) (λ c. search needs) loop-again-2 returns)
