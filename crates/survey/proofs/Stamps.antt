@@ -1,5 +1,6 @@
 -- The largest stamp bucket by bucket, and a bucket's as its part of the card gives it.
 use mathlib.Core.Path.{_≡_, refl, ap, ap₂, sym, _∙_}
+use mathlib.Core.Logic.{⊎-elim}
 use mathlib.Core.Bool.{Bool, true, false}
 use mathlib.Core.List.{List, _++_}
 use Prim.Native.Nat.{ℕ, zero, suc, _+_, _-_, _*_, _≤_, _<_, max}
@@ -15,7 +16,7 @@ use Rattle.rules.specs.Sector.{sectorAt}
 use Rattle.rules.specs.Layout.{base}
 use Rattle.rules.specs.Bucket.{unwritten}
 use Rattle.rules.specs.Write.{stampOf, topStamp, topUsed}
-use Rattle.laws.proofs.Tools.{and-true}
+use Rattle.laws.proofs.Tools.{and-true, bool-cases}
 use Rattle.laws.proofs.Heads.{bucket-fits}
 use Rattle.scan.specs.Look.{partOf}
 use Rattle.scan.proofs.Blanks.{zeros-append}
@@ -76,6 +77,10 @@ part-zeros card i (suc c) long =
     let d : drop 16 l ≡ drop (16 * suc i) card = drop-drop 16 (16 * i) card ∙ ap (λ (k : ℕ). drop k card) (let z : 16 * i + 16 ≡ 16 * suc i = omega arith in z) in
     ap zeros e ∙ zeros-append (take 16 l) (take (16 * c) (drop 16 l))
     ∙ ap (λ (z : Bool). zeros (take 16 l) & z) (ap (λ (x : List ℕ). zeros (take (16 * c) x)) d ∙ part-zeros card (suc i) c (omega arith))
+
+-- a nonzero byte in front
+pub first-written : (l : List ℕ) → (getD l 0 0 ≡ 0 → ⊥) → false ≡ zeros l
+first-written l other = ⊎-elim (λ z. absurd (other (zeros-get l 0 z))) sym (bool-cases (zeros l))
 
 -- blank sectors have no stamp
 blank-stamp : (card : List ℕ) (i c : ℕ) → unwritten card i c ≡ true → topStamp card i c ≡ 0

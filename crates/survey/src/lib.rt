@@ -3,6 +3,7 @@ use rules::Head;
 ghost use mathlib.Core.Path.{_≡_};
 ghost use Prim.Native.Nat.{_+_, _*_, _≤_, max};
 ghost use lib.ListN.{length};
+ghost use Rattle.rules.specs.Plain.{zeros};
 ghost use Rattle.rules.specs.Write.{stampOf, topStamp};
 ghost use Rattle.bucket.specs.Shapes.{Shape};
 ghost use Rattle.survey.specs.Survey.{surveyOf};
@@ -69,6 +70,17 @@ fn written(card: &[u8], head: Head) -> usize
     n
 }
 
+// Whether every byte of a bucket is zero. A written one mostly shows by its first byte that it was written.
+fn blank(part: &[u8]) -> bool
+    requires { ⌜ 1 ≤ length (now part) ⌝ }
+    ensures { λ r. ⌜ r ≡ zeros (now (part .entry)) ⌝ }
+{
+    if part[0] == 0 {
+        return sector::all_zero(part);
+    }
+    false
+}
+
 // A bucket of zeros is passed over: it has neither a stamp nor a nonzero byte.
 pub fn survey(card: &[u8], head: Head) -> Area
     requires { ⌜ Shape head (now card) ⌝ }
@@ -82,7 +94,7 @@ pub fn survey(card: &[u8], head: Head) -> Area
     while b < n {
         b += 1;
         let part = bucket::bucket_part(card, head, b as u32);
-        if sector::all_zero(part) {
+        if blank(part) {
             continue;
         }
         stamp = later(stamp, top_stamp(part, m));

@@ -35,13 +35,13 @@ loop-again c =
     let turn = at-bucket-part .before .before in
     let o = turn .before .before .before in
     let l = turn .loop in
-    (search needs, l .inv .1 ∙ sym (survey-blank (o .args .head) (o .args .card .now) (l .b) (o .pre) (search needs) (ap zeros (sym (at-bucket-part .bucket-part .ensures .0)) ∙ sym (c .before .all-zero .ensures) ∙ c .if1 .taken)))
+    (search needs, l .inv .1 ∙ sym (survey-blank (o .args .head) (o .args .card .now) (l .b) (o .pre) (search needs) (ap zeros (sym (at-bucket-part .bucket-part .ensures .0)) ∙ sym (c .before .blank .ensures) ∙ c .if1 .taken)))
 
 loop-again-2 : tie.Need-loop-again-2 Inv-loop μ-loop
 loop-again-2 c =
     let at-if1 = c .before .before in
-    let at-all-zero = at-if1 .before in
-    let at-bucket-part = at-all-zero .before in
+    let at-blank = at-if1 .before in
+    let at-bucket-part = at-blank .before in
     let turn = at-bucket-part .before .before in
     let o = turn .before .before .before in
     let l = turn .loop in
@@ -49,7 +49,7 @@ loop-again-2 c =
     let s = c .later .ensures ∙ ap₂ max (ap (λ (a : Area). a .stamp) (l .inv .1)) (c .before .top-stamp .ensures ∙ ap (λ (p : List ℕ). topStamp p 0 (o .args .head .m)) part) in (
       search needs,
       ap (λ (k : ℕ). record { stamp = k; used = l .b + 1 }) s
-          ∙ sym (survey-full (o .args .head) (o .args .card .now) (l .b) (o .pre) (search needs) (ap zeros (sym part) ∙ sym (at-all-zero .all-zero .ensures) ∙ at-if1 .if1 .left)),
+          ∙ sym (survey-full (o .args .head) (o .args .card .now) (l .b) (o .pre) (search needs) (ap zeros (sym part) ∙ sym (at-blank .blank .ensures) ∙ at-if1 .if1 .left)),
     )
 
 returns : tie.Need-returns Inv-loop μ-loop
