@@ -1,6 +1,5 @@
 -- `survey::blank` meets its contract: a nonzero byte in front decides.
 use borrow.Author.Needs.{needs}
-use denote.Ref.{now}
 use Rattle.survey.proofs.Stamps.{first-written}
 use Rattle.survey.proofs.blank.Statement.{statement}
 use Rattle.survey.proofs.blank.Tie as tie
