@@ -43,7 +43,14 @@ mod library {
         pub fn card_strike(card: *mut u8, len: usize, bib: u32, at: u32) -> Answer;
         pub fn card_look(card: *const u8, len: usize, bib: u32, at: u32) -> Answer;
         pub fn card_next(card: *const u8, len: usize, bib: u32, at: u32) -> Answer;
-        pub fn card_records(card: *const u8, len: usize, bib: u32, at: u32, out: *mut u8, room: usize) -> Tally;
+        pub fn card_records(
+            card: *const u8,
+            len: usize,
+            bib: u32,
+            at: u32,
+            out: *mut u8,
+            room: usize,
+        ) -> Tally;
         pub fn card_digits(time: u32, field: u32) -> Digits;
     }
 }

@@ -3,8 +3,8 @@
 
 mod common;
 
-use card::{Record, Refusal, Shape};
 use card::numbers::Tally;
+use card::{Record, Refusal, Shape};
 use card_model::list::{List, Said};
 use common::guarded::Guarded;
 use common::mutate::damage;
