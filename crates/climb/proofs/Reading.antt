@@ -81,7 +81,7 @@ used-run n s u i (suc c) es q =
     rw (ne-eqb (getD s (16 * i) 0) 0 (λ (v : getD s (16 * i) 0 ≡ 0). omega arith), add-one i) (omega arith))
     (onto-inv (decode n (sectorAt s i)) (run n s (suc i) c) es q)
 
-pub entries-run : (n : ℕ) (s : List ℕ) (i c : ℕ) (es : List Entry) → run n s i c ≡ some es → (entriesAt s i (length es) ≡ es) × AllSmall es
+entries-run : (n : ℕ) (s : List ℕ) (i c : ℕ) (es : List Entry) → run n s i c ≡ some es → (entriesAt s i (length es) ≡ es) × AllSmall es
 unfolding run
 entries-run n s i zero es q = let l : es ≡ [] = cc in subst (λ (z : List Entry). (entriesAt s i (length z) ≡ z) × AllSmall z) (sym l) (refl, tt)
 entries-run n s i (suc c) es q =

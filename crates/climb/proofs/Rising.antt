@@ -91,7 +91,7 @@ rise-more h s (b ∷ bs) r =
 
 -- what stays where entries go into bucket b alone
 module _ (h : Head) (card : List ℕ) (sh : Shape h card) (b : ℕ) (one : 1 ≤ b) (most : b ≤ h .n) (es : List Entry) where
-  pub into-shape : Shape h (into h b es card)
+  into-shape : Shape h (into h b es card)
   into-shape = record { lim = sh .lim; long = block-size h card (sh .long) b one most es }
 
   into-log : log h (into h b es card) ≡ log h card
@@ -108,7 +108,7 @@ module _ (h : Head) (card : List ℕ) (sh : Shape h card) (b : ℕ) (one : 1 ≤
   into-reads [] lt a = tt
   into-reads (c ∷ bs) lt a = (into-read c (λ (e : c ≡ b). omega (arith, lt .0)) (a .0), into-reads bs (lt .1) (a .1))
 
-  pub into-free : (c : ℕ) → 1 ≤ c → (c ≡ b → ⊥) → raw h (into h b es card) c ≡ raw h card c
+  into-free : (c : ℕ) → 1 ≤ c → (c ≡ b → ⊥) → raw h (into h b es card) c ≡ raw h card c
   into-free c lo ne = block-else h card (sh .long) b one most es c lo ne
 
 below-more : (f g : ℕ) (bs : List ℕ) → f ≤ g → AllBelow f bs → AllBelow g bs

@@ -1,5 +1,5 @@
 -- On any card with a head: when a level of a write has its turn, its bucket is as the walk met it, buckets not yet taken are blank, and head and log are as met.
-use mathlib.Core.Path.{_∙_, _≡_, ap, refl, sym, ap₂, subst}
+use mathlib.Core.Path.{_∙_, _≡_, ap, refl, sym, subst}
 use mathlib.Core.Bool.{false, true}
 use mathlib.Core.Option.{some}
 use Prim.Native.Nat.{_+_, _-_, _/_, _<_, _≤_, suc, zero, ℕ}
@@ -17,13 +17,12 @@ use Rattle.rules.specs.Sector.{sectorAt}
 use Rattle.rules.specs.Walk.{Visit, walk}
 use Rattle.rules.specs.Write.{climb, place, placeIf, topUsed}
 use Rattle.laws.proofs.Run.{Agree, blanks-agree, run-agree}
-use Rattle.laws.proofs.Buckets.{bucket-raw, bucket-within, Clear, buckets-clear, front-clear, raw}
+use Rattle.laws.proofs.Buckets.{bucket-raw, bucket-within, Clear, buckets-clear, front-clear}
 use Rattle.laws.proofs.Fresh.{climb-mono, placeIf-fresh}
 use Rattle.laws.proofs.Heads.{head-facts}
 use Rattle.laws.proofs.Into.{block-size, block-agree}
 use Rattle.laws.proofs.Paths.{Along, Apart, along-map, walk-once, walk-reads}
-use Rattle.laws.proofs.Used.{used-top, top-raw}
-use Rattle.laws.proofs.Blanks.{upFrom, blanks-from}
+use Rattle.laws.proofs.Used.{used-top}
 
 -- the k sectors from i are as on the card met, where no bucket that is written has any of them
 module _ (h : Head) (s : ℕ) (met : List ℕ) (i k : ℕ) where
@@ -80,7 +79,7 @@ module _ (h : Head) (s : ℕ) (met : List ℕ) (i k : ℕ) where
   placeIf-same v [] r o lo cl cap sm = sm
   placeIf-same v (e ∷ es) r o lo cl cap sm = place-same v r o lo cl cap sm
 
-  pub climb-same : (p : List Visit) (r : Rise) → Along Aside p → Steps r (climb h s p r)
+  climb-same : (p : List Visit) (r : Rise) → Along Aside p → Steps r (climb h s p r)
   unfolding climb
   climb-same [] r o lo cl cap sm = sm
   climb-same (v ∷ p) r o lo cl cap sm =
@@ -111,13 +110,6 @@ bucket-agree h a b (suc c) ag = ap (λ z. andThen z soundBucket) (run-agree (h .
 blanks-same : (h : Head) (a b : List ℕ) (c : ℕ) → Agree a b (base h c) (h .m) → blanksOf h a c ≡ blanksOf h b c
 unfolding blanksOf
 blanks-same h a b c ag = blanks-agree a b (base h c) (h .m) ag
-
-all-blank : (h : Head) (card : List ℕ) (c : ℕ) → raw h card c ≡ some [] → blanksOf h card c ≡ upFrom (base h c) (h .m)
-unfolding blanksOf
-all-blank h card c q =
-    let a : base h c + 0 ≡ base h c = omega arith in
-    let b : h .m - 0 ≡ h .m = omega arith in
-    blanks-from (h .n) card (base h c) (h .m) [] q ∙ ap₂ upFrom a b
 
 -- a write along the lower part q of a path, on the card that it meets
 module _ (h : Head) (card : List ℕ) (hq : headOf card ≡ some h) (t x : ℕ) (us q : List Visit) (w : walk h card t x ≡ some (us ++ q)) (s : ℕ) (es : List Entry) where
@@ -160,15 +152,6 @@ module _ (h : Head) (card : List ℕ) (hq : headOf card ≡ some h) (t x : ℕ) 
   pub front-met : done .fresh ≤ h .n + 1 → (j : ℕ) → j < 1 + h .n → sectorAt (done .card) j ≡ sectorAt card j
   front-met cap j lt =
       agrees 0 (1 + h .n) (along-map Reads (λ v. Clear h 0 (1 + h .n) (v .number)) (λ v z. front-clear h (v .number)) q reads) (λ b f g. front-clear h b) cap .1 j (omega arith) (omega arith)
-
-  -- a bucket not yet taken is blank, all m sectors in a row
-  pub fresh-met : (c : ℕ) → done .fresh ≤ c → c ≤ h .n → blanksOf h (done .card) c ≡ upFrom (base h c) (h .m)
-  fresh-met c lo hi =
-      let up = climb-mono h s q start in
-      let a = other c (omega arith)
-      (along-map Reads (λ v. c ≡ v .number → ⊥) (λ v z e. let le = used-top h card (v .number) (v .entries) size z in omega arith) q reads)
-      (λ b f g e. omega arith) (omega arith) in
-      blanks-same h (done .card) card c (a .1) ∙ all-blank h card c (top-raw h card c (omega arith) hi)
 
 -- what is known of the bucket of v when its turn comes
 pub record AsMet (h : Head) (card now : List ℕ) (v : Visit) : Type 0 where

@@ -40,7 +40,7 @@ blanks-from n card i (suc c) es q =
     blanks-no card i c (held-zeros n (sectorAt card i) (b .0) (b .2)) ∙ blanks-from n card (suc i) c (b .1) (b .4) ∙ ap₂ upFrom e1 e2)
     (onto-inv (decode n (sectorAt card i)) (run n card (suc i) c) es q)
 
-pub upFrom-length : (i c : ℕ) → length (upFrom i c) ≡ c
+upFrom-length : (i c : ℕ) → length (upFrom i c) ≡ c
 upFrom-length i zero = refl
 upFrom-length i (suc c) = ap suc (upFrom-length (suc i) c)
 

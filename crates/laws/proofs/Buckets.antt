@@ -30,7 +30,7 @@ every-snoc p (x ∷ es) e h q =
     true-and (t .0) (every-snoc p es e (t .1) q)
 
 -- what a sound bucket is
-pub sound-inv : (es gs : List Entry) → soundBucket es ≡ some gs → es ≡ gs
+sound-inv : (es gs : List Entry) → soundBucket es ≡ some gs → es ≡ gs
 unfolding soundBucket
 sound-inv [] gs eq = cc
 sound-inv (x ∷ es) gs eq = guard-true (every (joins x) (x ∷ es)) (x ∷ es) gs eq .1

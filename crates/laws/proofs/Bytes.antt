@@ -23,7 +23,7 @@ abbrev pub Bytes : List ℕ → Type 0
 Bytes [] = Unit {0}
 Bytes (x ∷ xs) = (x < 256) × Bytes xs
 
-pub bytes-get : (xs : List ℕ) (i : ℕ) → Bytes xs → getD xs i 0 < 256
+bytes-get : (xs : List ℕ) (i : ℕ) → Bytes xs → getD xs i 0 < 256
 bytes-get [] i b = omega arith
 bytes-get (x ∷ xs) zero b = b .0
 bytes-get (x ∷ xs) (suc i) b = bytes-get xs i (b .1)
@@ -32,12 +32,12 @@ pub bytes-append : (xs ys : List ℕ) → Bytes xs → Bytes ys → Bytes (xs ++
 bytes-append [] ys a b = b
 bytes-append (x ∷ xs) ys a b = (a .0, bytes-append xs ys (a .1) b)
 
-pub bytes-take : (n : ℕ) (xs : List ℕ) → Bytes xs → Bytes (take n xs)
+bytes-take : (n : ℕ) (xs : List ℕ) → Bytes xs → Bytes (take n xs)
 bytes-take zero xs b = tt
 bytes-take (suc n) [] b = tt
 bytes-take (suc n) (x ∷ xs) b = (b .0, bytes-take n xs (b .1))
 
-pub bytes-drop : (n : ℕ) (xs : List ℕ) → Bytes xs → Bytes (drop n xs)
+bytes-drop : (n : ℕ) (xs : List ℕ) → Bytes xs → Bytes (drop n xs)
 bytes-drop zero xs b = b
 bytes-drop (suc n) [] b = tt
 bytes-drop (suc n) (x ∷ xs) b = bytes-drop n xs (b .1)
@@ -74,7 +74,7 @@ bytes-fill n card is [] a g = a
 bytes-fill n card [] (e ∷ new) a g = a
 bytes-fill n card (i ∷ is) (e ∷ new) a g = bytes-fill n (put card i (encode e)) is new (bytes-put card i (encode e) a (bytes-encode e (g .0 .0))) (g .1)
 
-pub fields-fit : (s : List ℕ) → Bytes s → Fits (fields s)
+fields-fit : (s : List ℕ) → Bytes s → Fits (fields s)
 unfolding fields word
 fields-fit s b =
     record {

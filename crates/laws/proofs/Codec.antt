@@ -25,7 +25,7 @@ pub record Fits (e : Entry) : Type 0 where
   pub stamp : e .stamp < 4294967296
   pub value : e .value < 4294967296
 
-pub fields-encode : (e : Entry) → Fits e → fields (encode e) ≡ e
+fields-encode : (e : Entry) → Fits e → fields (encode e) ≡ e
 unfolding encode le4 fields word
 fields-encode e f = λ i. record { kind = e .kind; key = digits4 (e .key) (f .key) i; stamp = digits4 (e .stamp) (f .stamp) i; value = digits4 (e .value) (f .value) i }
 
@@ -51,7 +51,7 @@ unfolding decode
 decode-encode n e f l = simp (fields-encode e f, l, w n e l, z e)
 
 -- a blank sector is the one of zeros
-pub zeros-blank : (n : ℕ) (s : List ℕ) → zeros s ≡ true → decode n s ≡ Blank
+zeros-blank : (n : ℕ) (s : List ℕ) → zeros s ≡ true → decode n s ≡ Blank
 unfolding decode
 zeros-blank n s z = rw z
 

@@ -51,7 +51,7 @@ root-says s b = refl
 unfoldable pub Asks : Entry → Type 0
 Asks e = Fits e × ((e .kind ≡ 1) ⊎ ((e .kind ≡ 2) × (e .value ≡ 0)))
 
-pub asks-data : (e : Entry) → (e .kind ≡ 1) ⊎ ((e .kind ≡ 2) × (e .value ≡ 0)) → (isIndex e ≡ false) × (isData e ≡ true)
+asks-data : (e : Entry) → (e .kind ≡ 1) ⊎ ((e .kind ≡ 2) × (e .value ≡ 0)) → (isIndex e ≡ false) × (isData e ≡ true)
 unfolding isIndex isData
 asks-data e (inl k) = rw k (refl, refl)
 asks-data e (inr k) = rw (k .0) (refl, refl)
@@ -60,7 +60,7 @@ pub asks-kind : (e : Entry) → Asks e → (isIndex e ≡ false) × (isData e �
 unfolding Asks
 asks-kind e a = asks-data e (a .1)
 
-pub asks-legal : (n : ℕ) (e : Entry) → (e .kind ≡ 1) ⊎ ((e .kind ≡ 2) × (e .value ≡ 0)) → 1 ≤ e .key → 1 ≤ e .stamp → legal n e ≡ true
+asks-legal : (n : ℕ) (e : Entry) → (e .kind ≡ 1) ⊎ ((e .kind ≡ 2) × (e .value ≡ 0)) → 1 ≤ e .key → 1 ≤ e .stamp → legal n e ≡ true
 unfolding legal
 asks-legal n e (inl k) a b = rw k (true-and (le-leb 1 (e .key) a) (le-leb 1 (e .stamp) b))
 asks-legal n e (inr k) a b = rw (k .0, k .1, le-leb 1 (e .key) a)

@@ -22,7 +22,7 @@ abbrev pub Sorted : List Entry → Type 0
 Sorted [] = Unit {0}
 Sorted (e ∷ es) = All (λ d. e .key < d .key) es × Sorted es
 
-pub insert-all : (P : Entry → Type 0) (e : Entry) (ds : List Entry) → P e → All P ds → All P (insert e ds)
+insert-all : (P : Entry → Type 0) (e : Entry) (ds : List Entry) → P e → All P ds → All P (insert e ds)
 unfolding insert
 insert-all P e [] p a = (p, tt)
 insert-all P e (d ∷ ds) p a =
@@ -58,7 +58,7 @@ unfolding lastCopies
 copies-all P [] a = tt
 copies-all P (e ∷ es) a = insert-all P e (lastCopies es) (a .0) (copies-all P es (a .1))
 
-pub only-sorted : (q : Entry → Bool) (es : List Entry) → Sorted es → Sorted (only q es)
+only-sorted : (q : Entry → Bool) (es : List Entry) → Sorted es → Sorted (only q es)
 unfolding only
 only-sorted q [] s = tt
 only-sorted q (e ∷ es) s =
@@ -76,7 +76,7 @@ unfolding only
 only-every q [] a = refl
 only-every q (e ∷ es) a = rw (a .0) (ap {B = List Entry} (λ r. e ∷ r) (only-every q es (a .1)))
 
-pub copy-none : (x : ℕ) (es : List Entry) → All (λ e. e .key ≡ x → ⊥) es → copyOf x es ≡ none
+copy-none : (x : ℕ) (es : List Entry) → All (λ e. e .key ≡ x → ⊥) es → copyOf x es ≡ none
 unfolding copyOf lastOf
 copy-none x es a = rw (only-none (λ e. eqb (e .key) x) es (all-map (λ e. e .key ≡ x → ⊥) (λ e. eqb (e .key) x ≡ false) (λ e n. ne-eqb (e .key) x n) es a))
 

@@ -25,7 +25,7 @@ pub record Lim (h : Head) : Type 0 where
   pub ti4 : 4 ≤ h .ti
   pub tim : h .ti ≤ h .m
 
-pub within-true : (lo x hi : ℕ) → within lo x hi ≡ true → (lo ≤ x) × (x ≤ hi)
+within-true : (lo x hi : ℕ) → within lo x hi ≡ true → (lo ≤ x) × (x ≤ hi)
 unfolding within
 within-true lo x hi e = let a = and-true (leb lo x) (leb x hi) e in (leb-true lo x (a .0), leb-true x hi (a .1))
 
@@ -82,7 +82,7 @@ pub head-same : (card card' : List ℕ) → sectorAt card' 0 ≡ sectorAt card 0
 unfolding headOf
 head-same card card' s l = ap₂ headIn s l
 
-pub head-digits : (x : ℕ) → x ≤ 4096 → x % 256 + 256 * (x / 256 % 256) + 65536 * (x / 65536 % 256) + 16777216 * (x / 16777216) ≡ x
+head-digits : (x : ℕ) → x ≤ 4096 → x % 256 + 256 * (x / 256 % 256) + 65536 * (x / 65536 % 256) + 16777216 * (x / 16777216) ≡ x
 head-digits x h = omega arith
 
 -- the head's bytes are read back

@@ -14,7 +14,7 @@ use Rattle.rules.specs.Layout.{base, sizeOf}
 use Rattle.rules.specs.Plain.{andThen, zeros}
 use Rattle.rules.specs.Rewrite.{into}
 use Rattle.rules.specs.Sector.{sectorAt}
-use Rattle.laws.proofs.Tools.{eq-or-ne, true-false}
+use Rattle.laws.proofs.Tools.{eq-or-ne}
 use Rattle.laws.proofs.Run.{run-agree, Agree, blanks-agree}
 use Rattle.laws.proofs.Buckets.{bucket-in, raw, Clear, buckets-clear}
 use Rattle.laws.proofs.Blocks.{Each, Lies, blanks-each, fill-other, fill-run, length-fill}
@@ -44,11 +44,11 @@ module _ (h : Head) (card : List ℕ) (size : sizeOf h ≡ length card) (b : ℕ
   block-raw es good fits eq = fill-run (h .n) card (base h b) (h .m) es new good (omega (arith, bucket-in (h .m) (h .n) b lo hi)) fits eq
 
   -- a sector that is not one of these blanks is as it was
-  pub block-sector : (j : ℕ) → Each (λ i. j ≡ i → ⊥) (blanksOf h card b) → sectorAt (into h b new card) j ≡ sectorAt card j
+  block-sector : (j : ℕ) → Each (λ i. j ≡ i → ⊥) (blanksOf h card b) → sectorAt (into h b new card) j ≡ sectorAt card j
   unfolding into
   block-sector j n = fill-other card (blanksOf h card b) new j here-lies n
 
-  pub block-out : (j : ℕ) → (j < base h b) ⊎ (base h b + h .m ≤ j) → sectorAt (into h b new card) j ≡ sectorAt card j
+  block-out : (j : ℕ) → (j < base h b) ⊎ (base h b + h .m ≤ j) → sectorAt (into h b new card) j ≡ sectorAt card j
   block-out j out = block-sector j (here-each (λ i. j ≡ i → ⊥) (λ i p q z e. ⊎-elim (λ (l : j < base h b). omega arith) (λ (g : base h b + h .m ≤ j). omega arith) out))
 
   pub block-agree : (i k : ℕ) → Clear h i k b → Agree (into h b new card) card i k
@@ -70,9 +70,6 @@ module _ (h : Head) (card : List ℕ) (size : sizeOf h ≡ length card) (b : ℕ
       (λ (e : c ≡ b). (es ++ new, ap (raw h (into h b new card)) e ∙ block-raw es good fits eq))
       (λ (ne : c ≡ b → ⊥). (w c lc .0, block-else c lc ne ∙ w c lc .1))
       (eq-or-ne c b)
-
-  pub block-stays : Stays card (into h b new card)
-  block-stays j z = block-sector j (here-each (λ i. j ≡ i → ⊥) (λ i p q y e. true-false (sym y ∙ ap (λ k. zeros (sectorAt card k)) (sym e) ∙ z)))
 
   -- the head and the log are as before
   pub block-front : (j : ℕ) → j < 1 + h .n → sectorAt (into h b new card) j ≡ sectorAt card j

@@ -165,7 +165,7 @@ larger-inv P e (some c) d pe pr q =
     ] in
     go (leb (e .key) (c .key)) q
 
-pub largest-all : (P : Entry → Type 0) (es : List Entry) (d : Entry) → All P es → largest es ≡ some d → P d
+largest-all : (P : Entry → Type 0) (es : List Entry) (d : Entry) → All P es → largest es ≡ some d → P d
 unfolding largest
 largest-all P [] d a q = absurd (none-some q)
 largest-all P (e ∷ es) d a q = larger-inv P e (largest es) d (a .0) (λ c t. largest-all P es c (a .1) t) q
@@ -178,7 +178,7 @@ larger-some e (some c) q =
     = λ b. elim b [ true ↦ λ t. none-some (sym t) | false ↦ λ t. none-some (sym t) ] in
     go (leb (e .key) (c .key)) q
 
-pub largest-none : (P : Entry → Type 0) (es : List Entry) → largest es ≡ none → All P es
+largest-none : (P : Entry → Type 0) (es : List Entry) → largest es ≡ none → All P es
 unfolding largest
 largest-none P [] q = tt
 largest-none P (e ∷ es) q = absurd (larger-some e (largest es) q)
@@ -228,7 +228,7 @@ follow-gap x es d q =
     (λ e f le. f (le-leb (e .key) x le)) es
     (only-back (λ e. e .key ≤ d .key) (λ e. leb (e .key) x) es (largest-ge (only (λ e. leb (e .key) x) es) d q))
 
-pub upper-same : (x y : ℕ) (es : List Entry) (hi : ℕ) → All (λ e. ltb x (e .key) ≡ ltb y (e .key)) es → upper x es hi ≡ upper y es hi
+upper-same : (x y : ℕ) (es : List Entry) (hi : ℕ) → All (λ e. ltb x (e .key) ≡ ltb y (e .key)) es → upper x es hi ≡ upper y es hi
 unfolding upper
 upper-same x y [] hi a = refl
 upper-same x y (e ∷ es) hi a = ap₂ (λ b u. cut b (e .key) u) (a .0) (upper-same x y es hi (a .1))

@@ -15,7 +15,7 @@ use Rattle.laws.proofs.Run.{blanks-agree, run-agree}
 use Rattle.laws.proofs.Tools.{guard-true, none-some, then-inv}
 
 -- what is read of the log, by its sectors
-pub soundLog-inv : (es gs : List Entry) → soundLog es ≡ some gs → (es ≡ gs) × (every isRoot gs ≡ true)
+soundLog-inv : (es gs : List Entry) → soundLog es ≡ some gs → (es ≡ gs) × (every isRoot gs ≡ true)
 unfolding soundLog
 soundLog-inv [] gs q = absurd (none-some q)
 soundLog-inv (e ∷ es) gs q =

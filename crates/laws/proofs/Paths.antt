@@ -184,7 +184,7 @@ abbrev pub Apart : List Visit → Type 0
 Apart [] = Unit {0}
 Apart (v ∷ p) = Along (λ w. v .number ≡ w .number → ⊥) p × Apart p
 
-pub path-once : (rd : ℕ → Option (List Entry)) (t x f b k : ℕ) (p : List Visit) → path rd t x f b k ≡ some p → Apart p
+path-once : (rd : ℕ → Option (List Entry)) (t x f b k : ℕ) (p : List Visit) → path rd t x f b k ≡ some p → Apart p
 path-once rd t x zero b k p e = absurd (path-zero rd t x b k p e)
 path-once rd t x (suc f) b k p e =
     let s = path-inv rd t x f b k p e in

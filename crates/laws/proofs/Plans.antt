@@ -24,7 +24,7 @@ unfolding refuseIf
 passed true c p new q = absurd (no-accept c new q)
 passed false c p new q = (refl, q)
 
-pub or-false : (a b : Bool) → a or b ≡ false → (a ≡ false) × (b ≡ false)
+or-false : (a b : Bool) → a or b ≡ false → (a ≡ false) × (b ≡ false)
 or-false true b q = (q, cc)
 or-false false b q = (refl, q)
 

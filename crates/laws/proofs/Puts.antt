@@ -40,7 +40,7 @@ abbrev pub Puts : Head → (Entry → Type 0) → List ℕ → List ℕ → List
 Puts h Q card [] new = card ≡ new
 Puts h Q card (i ∷ is) new = (d : Entry) × Put h Q card i d × Puts h Q (put card i (encode d)) is new
 
-pub puts-append : (h : Head) (Q : Entry → Type 0) (a : List ℕ) (is : List ℕ) (b : List ℕ) (js : List ℕ) (c : List ℕ) → Puts h Q a is b
+puts-append : (h : Head) (Q : Entry → Type 0) (a : List ℕ) (is : List ℕ) (b : List ℕ) (js : List ℕ) (c : List ℕ) → Puts h Q a is b
     → Puts h Q b js c → Puts h Q a (is ++ js) c
 puts-append h Q a [] b js c p q = subst (λ z. Puts h Q z js c) (sym p) q
 puts-append h Q a (i ∷ is) b js c p q = (p .0, p .1, puts-append h Q (put a i (encode (p .0))) is b js c (p .2) q)
@@ -53,7 +53,7 @@ put-size : (h : Head) (card : List ℕ) (i : ℕ) (d : Entry) → sizeOf h ≡ l
     → sizeOf h ≡ length (put card i (encode d))
 put-size h card i d size lt = size ∙ sym (length-put card i (encode d) (length-encode d) (in-card h card size i lt))
 
-pub puts-size : (h : Head) (Q : Entry → Type 0) (card : List ℕ) (is : List ℕ) (new : List ℕ) → sizeOf h ≡ length card → Puts h Q card is new
+puts-size : (h : Head) (Q : Entry → Type 0) (card : List ℕ) (is : List ℕ) (new : List ℕ) → sizeOf h ≡ length card → Puts h Q card is new
     → sizeOf h ≡ length new
 puts-size h Q card [] new size p = size ∙ ap length p
 puts-size h Q card (i ∷ is) new size p = puts-size h Q (put card i (encode (p .0))) is new (put-size h card i (p .0) size (p .1 .high)) (p .2)
@@ -127,7 +127,7 @@ each-both P Q (i ∷ is) a b = ((a .0, b .0), each-both P Q is (a .1) (b .1))
 abbrev pub Chain : Head → (Entry → Type 0) → List ℕ → List ℕ → Type 0
 Chain h Q card new = (is : List ℕ) × Puts h Q card is new
 
-pub chain-same : (h : Head) (Q : Entry → Type 0) (card : List ℕ) → Chain h Q card card
+chain-same : (h : Head) (Q : Entry → Type 0) (card : List ℕ) → Chain h Q card card
 chain-same h Q card = ([], refl)
 
 pub chain-more : (h : Head) (Q : Entry → Type 0) (a b c : List ℕ) → Chain h Q a b → Chain h Q b c → Chain h Q a c
@@ -234,7 +234,7 @@ module _ (h : Head) (n4096 : h .n ≤ 4096) (s : ℕ) (s32 : s < 4294967296) (Q 
   placeIf-ok v [] r a o lo cap = o
   placeIf-ok v (e ∷ es) r a o lo cap = place-ok v r a o lo cap
 
-  pub climb-ok : (p : List Visit) (r : Rise) → Along Sits p → Ok r → 1 ≤ r .fresh → (climb h s p r) .fresh ≤ h .n + 1 → Ok (climb h s p r)
+  climb-ok : (p : List Visit) (r : Rise) → Along Sits p → Ok r → 1 ≤ r .fresh → (climb h s p r) .fresh ≤ h .n + 1 → Ok (climb h s p r)
   unfolding climb
   climb-ok [] r a o lo cap = o
   climb-ok (v ∷ p) r a o lo cap =
@@ -247,7 +247,7 @@ module _ (h : Head) (n4096 : h .n ≤ 4096) (s : ℕ) (s32 : s < 4294967296) (Q 
   unfolding logged
   logged-ok b r o = chain-more h Q card (r .card) (fill (r .card) (logBlanks h (r .card)) (rootEntry s b ∷ [])) o (log-chain h Q (r .card) s b)
 
-  pub rooted-ok : (top : List Entry) (r : Rise) → All P top → Ok r → 1 ≤ r .fresh → (rooted h s top r) .fresh ≤ h .n + 1
+  rooted-ok : (top : List Entry) (r : Rise) → All P top → Ok r → 1 ≤ r .fresh → (rooted h s top r) .fresh ≤ h .n + 1
       → Chain h Q card ((rooted h s top r) .card)
   unfolding rooted logged
   rooted-ok [] r a o lo cap = o .0

@@ -42,7 +42,7 @@ top-blank h card (suc n) c lt le = go (unwritten card (base h (suc n)) (h .m)) r
     go true z l ih = ⊎-elim (λ p. rw p z) (λ (ne : c ≡ suc n → ⊥). ih l (omega arith)) (eq-or-ne c (suc n))
     go false z l ih = absurd (omega arith)
 
-pub top-sector : (h : Head) (card : List ℕ) (c j : ℕ) → topUsed h card (h .n) < c → c ≤ h .n → base h c ≤ j → j < base h c + h .m
+top-sector : (h : Head) (card : List ℕ) (c j : ℕ) → topUsed h card (h .n) < c → c ≤ h .n → base h c ≤ j → j < base h c + h .m
     → zeros (sectorAt card j) ≡ true
 top-sector h card c j p q a b = unwritten-each card (base h c) (h .m) j (top-blank h card (h .n) c p q) a b
 

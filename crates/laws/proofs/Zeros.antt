@@ -17,7 +17,7 @@ zeros-get (zero ∷ xs) zero z = refl
 zeros-get (zero ∷ xs) (suc j) z = zeros-get xs j z
 zeros-get (suc x ∷ xs) j z = absurd (false-true z)
 
-pub get-zeros : (xs : List ℕ) → ((j : ℕ) → getD xs j 0 ≡ 0) → zeros xs ≡ true
+get-zeros : (xs : List ℕ) → ((j : ℕ) → getD xs j 0 ≡ 0) → zeros xs ≡ true
 unfolding zeros
 get-zeros [] f = refl
 get-zeros (zero ∷ xs) f = get-zeros xs (λ j. f (suc j))

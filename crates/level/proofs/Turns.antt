@@ -51,7 +51,7 @@ key-out es n i le long =
     let e : slice i n es ≡ [] = drop-of-length-le (take n es) {i = i} (omega arith) in
     rw e
 
-pub key-half : (es : List Entry) → keyOf (take (length es - length es / 2) es) ≡ keyOf es
+key-half : (es : List Entry) → keyOf (take (length es - length es / 2) es) ≡ keyOf es
 unfolding keyOf
 key-half [] = refl
 key-half (e ∷ es) =

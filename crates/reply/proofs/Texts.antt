@@ -14,7 +14,7 @@ pub copied : (out text : List ℕ) (at i : ℕ) → i ≡ length text → paste 
 unfolding laid
 copied out text at i e = rw (e, take-length text)
 
-pub laid-on : (out s t : List ℕ) (at : ℕ) → at ≤ length out → laid (laid out at s) (at + length s) t ≡ laid out at (s ++ t)
+laid-on : (out s t : List ℕ) (at : ℕ) → at ≤ length out → laid (laid out at s) (at + length s) t ≡ laid out at (s ++ t)
 unfolding laid
 laid-on out s t at h =
     let front : length (take at out ++ s) ≡ at + length s = length-append (take at out) s ∙ ap (λ (k : ℕ). k + length s) (length-take-le at out h) in

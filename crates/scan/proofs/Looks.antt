@@ -121,7 +121,7 @@ in-then rd t x f none = refl
 in-then rd t x f (some es) = refl
 
 -- from the log on
-pub trip-walk : (h : Head) (card : List ℕ) (x t : ℕ)
+trip-walk : (h : Head) (card : List ℕ) (x t : ℕ)
     → tripFrom h card x t (searchLog t (sectors (h .n) card 1 (h .n))) ≡ tripIn x t 0 (walk h card t x)
 unfolding walk
 trip-walk h card x t =

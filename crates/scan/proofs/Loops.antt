@@ -29,7 +29,7 @@ use Rattle.scan.specs.Next.{pickUp, weigh, standIn, later, sectorsOf, le
 use Rattle.scan.proofs.Data.{Ends, data-weigh}
 
 -- the sectors from the i-th on, up to the m-th: the i-th, and those from the next on
-pub sectors-step : (n m i : ℕ) (b : List ℕ) → i < m
+sectors-step : (n m i : ℕ) (b : List ℕ) → i < m
     → sectors n b i (m - i) ≡ decode n (sectorAt b i) ∷ sectors n b (i + 1) (m - (i + 1))
 unfolding sectors
 sectors-step n m i b h =
@@ -41,7 +41,7 @@ unfolding sectors
 sectors-end n m i b h = let z : m - i ≡ 0 = omega arith in rw z
 
 -- the first of m sectors
-pub sectors-first : (n m : ℕ) (b : List ℕ) → 4 ≤ m → sectors n b 0 m ≡ decode n (sectorAt b 0) ∷ sectors n b 1 (m - 1)
+sectors-first : (n m : ℕ) (b : List ℕ) → 4 ≤ m → sectors n b 0 m ≡ decode n (sectorAt b 0) ∷ sectors n b 1 (m - 1)
 unfolding sectors
 sectors-first n m b h = let more : m ≡ suc (m - 1) = omega arith in ap (λ (k : ℕ). sectors n b 0 k) more
 

@@ -59,7 +59,7 @@ none-smallest : Nothing ≡ hit (smallest [])
 unfolding hit smallest
 none-smallest = refl
 
-pub fold-under : (es : List Entry) → fold under Nothing es ≡ hit (smallest es)
+fold-under : (es : List Entry) → fold under Nothing es ≡ hit (smallest es)
 fold-under es = rw none-smallest (fold-snoc under (λ l. hit (smallest l)) under-snoc [] es)
 
 -- the index keys above x

@@ -35,7 +35,7 @@ unfolding soundBucket
 sound-same [] es h = absurd (none-some h)
 sound-same (x ∷ xs) es h = guard-true (every (joins x) (x ∷ xs)) (x ∷ xs) es h .1
 
-pub bucket-run : (h : Head) (card : List ℕ) (b : ℕ) (es : List Entry) → bucket h card b ≡ some es → runOf (sectorsOf h card b) ≡ some es
+bucket-run : (h : Head) (card : List ℕ) (b : ℕ) (es : List Entry) → bucket h card b ≡ some es → runOf (sectorsOf h card b) ≡ some es
 unfolding bucket sectorsOf
 bucket-run h card zero es e = absurd (none-some e)
 bucket-run h card (suc b) es e =
@@ -106,7 +106,7 @@ leg-none : (k x t : ℕ) (up : Found) → Gone ≡ legIn k x t up none
 unfolding legIn
 leg-none k x t up = refl
 
-pub leg-path : (h : Head) (card : List ℕ) (k x t f : ℕ) (up : Found) (b j : ℕ)
+leg-path : (h : Head) (card : List ℕ) (k x t f : ℕ) (up : Found) (b j : ℕ)
     → legScan h card k x t f up b j ≡ legIn k x t up (path (bucket h card) t x f b j)
 unfolding legScan path
 leg-path h card k x t zero up b j = leg-none k x t up
@@ -123,7 +123,7 @@ from-leg h card k x t Nothing = leg-none k x t Nothing
 from-leg h card k x t (Hit e) = leg-path h card k x t (h .n) Nothing (e .value) 0
 
 -- one walk of next
-pub leg-walk : (h : Head) (card : List ℕ) (k t x : ℕ) → leg h card k t x ≡ legIn k x t Nothing (walk h card t x)
+leg-walk : (h : Head) (card : List ℕ) (k t x : ℕ) → leg h card k t x ≡ legIn k x t Nothing (walk h card t x)
 unfolding leg walk
 leg-walk h card k t x =
     from-leg h card k x t (searchLog t (sectors (h .n) card 1 (h .n)))

@@ -76,14 +76,14 @@ pad-more a (suc b) c d z = omega arith
 pad-more a zero (suc c) d z = omega arith
 pad-more a zero zero (suc d) z = omega arith
 
-pub pad-true : (s : List ℕ) → 4 ≤ length s → zeros (take 3 (drop 1 s)) ≡ true → word s 0 ≡ getD s 0 0
+pad-true : (s : List ℕ) → 4 ≤ length s → zeros (take 3 (drop 1 s)) ≡ true → word s 0 ≡ getD s 0 0
 pad-true [] h z = absurd (omega arith)
 pad-true (a ∷ []) h z = absurd (omega arith)
 pad-true (a ∷ b ∷ []) h z = absurd (omega arith)
 pad-true (a ∷ b ∷ c ∷ []) h z = absurd (omega arith)
 pad-true (a ∷ b ∷ c ∷ d ∷ r) h z = word-cons a b c d r ∙ pad-zero a b c d z
 
-pub pad-false : (s : List ℕ) → 4 ≤ length s → zeros (take 3 (drop 1 s)) ≡ false → 256 ≤ word s 0
+pad-false : (s : List ℕ) → 4 ≤ length s → zeros (take 3 (drop 1 s)) ≡ false → 256 ≤ word s 0
 pad-false [] h z = absurd (omega arith)
 pad-false (a ∷ []) h z = absurd (omega arith)
 pad-false (a ∷ b ∷ []) h z = absurd (omega arith)

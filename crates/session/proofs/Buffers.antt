@@ -10,7 +10,7 @@ use Rattle.rules.specs.Plain.{zeros}
 use Rattle.laws.proofs.Zeros.{zero-take, zero-eq}
 use Rattle.session.specs.Cards.{Room}
 
-pub zeros-replicate : (n : ℕ) → zeros (replicate n 0) ≡ true
+zeros-replicate : (n : ℕ) → zeros (replicate n 0) ≡ true
 unfolding zeros
 zeros-replicate zero = refl
 zeros-replicate (suc n) = zeros-replicate n

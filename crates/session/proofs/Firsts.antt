@@ -32,7 +32,7 @@ module _ (n m td ti : ℕ) where
   unfolding firstFormat sizeOf meant
   first-large h = rw (lt-leb (16 * (1 + n * (m + 1))) 65536 (omega arith))
 
-  pub first-fits : n * (m + 1) ≤ 4095 → firstCard (format (replicate (16 * (1 + n * (m + 1))) 0) n m td ti) ≡ firstFormat (sizeOf (meant n m td ti)) n m td ti
+  first-fits : n * (m + 1) ≤ 4095 → firstCard (format (replicate (16 * (1 + n * (m + 1))) 0) n m td ti) ≡ firstFormat (sizeOf (meant n m td ti)) n m td ti
   unfolding firstFormat sizeOf meant
   first-fits h = rw (le-leb (16 * (1 + n * (m + 1))) 65536 (omega arith))
 

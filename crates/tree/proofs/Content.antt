@@ -39,7 +39,7 @@ tree-parts rd g zero b lo hi tr = tr
 tree-parts rd g (suc k) b lo hi tr = tr
 
 -- a list that says the same has the same content
-pub content-says : (rd : Reading) (g : ℕ → Option Entry) (k lo hi : ℕ) (ls bs : List Entry) → Says ls bs → Content rd g k bs lo hi
+content-says : (rd : Reading) (g : ℕ → Option Entry) (k lo hi : ℕ) (ls bs : List Entry) → Says ls bs → Content rd g k bs lo hi
     → Content rd g k ls lo hi
 content-says rd g zero lo hi ls bs s c = λ x p q. ap standing (s .copies x) ∙ c x p q
 content-says rd g (suc k) lo hi ls bs s c = λ x p q.

@@ -76,7 +76,7 @@ unmarked? s (e ∷ cs) =
     (λ (d : isData e ≡ false). ⊎-elim (λ a. inl ((λ i. absurd (true-false (sym i ∙ d))), a)) (λ z. inr (λ a. z (a .1))) (unmarked? s cs))
     (bool-cases (isData e))
 
-pub or-true2 : (a b : Bool) → a or b or true ≡ true
+or-true2 : (a b : Bool) → a or b or true ≡ true
 or-true2 true b = refl
 or-true2 false true = refl
 or-true2 false false = refl

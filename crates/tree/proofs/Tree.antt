@@ -110,7 +110,7 @@ data-index rd g g' h b lo lo' hi hi' a c =
     go (e ∷ es) s u = true-false (sym (u .1 .0 .0) ∙ s .1 .0 .0)
 
 -- a bucket stands at one height only
-pub height-unique : (rd : Reading) (g g' : ℕ → Option Entry) (h h' b lo hi hi' : ℕ) → lo < hi → lo < hi'
+height-unique : (rd : Reading) (g g' : ℕ → Option Entry) (h h' b lo hi hi' : ℕ) → lo < hi → lo < hi'
     → Tree rd g h b lo hi → Tree rd g' h' b lo hi' → h ≡ h'
 height-unique rd g g' zero zero b lo hi hi' p q a c = refl
 height-unique rd g g' zero (suc h') b lo hi hi' p q a c = absurd (data-index rd g g' h' b lo lo hi hi' a c)

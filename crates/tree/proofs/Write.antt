@@ -51,7 +51,7 @@ all-grows : (h : Head) (card card' : List ℕ) (s : ℕ) → ((c : ℕ) (cs : Li
     → Grows s (bucket h card) (bucket h card')
 all-grows h card card' s f c cs q = ([], f c cs q ∙ ap some (sym (append-nil cs)), tt)
 
-pub is-root : (s b : ℕ) → isRoot (rootEntry s b) ≡ true
+is-root : (s b : ℕ) → isRoot (rootEntry s b) ≡ true
 unfolding isRoot
 is-root s b = refl
 

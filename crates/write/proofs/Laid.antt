@@ -66,7 +66,7 @@ none-path : (rd : ℕ → Option (List Entry)) (t x f : ℕ) → pathIn rd t x f
 unfolding pathIn
 none-path rd t x f = refl
 
-pub walk-log : (h : Head) (card : List ℕ) (t x : ℕ) (p : List Visit) → walk h card t x ≡ some p → (es : List Entry) × (log h card ≡ some es)
+walk-log : (h : Head) (card : List ℕ) (t x : ℕ) (p : List Visit) → walk h card t x ≡ some p → (es : List Entry) × (log h card ≡ some es)
 unfolding walk
 walk-log h card t x p w = go (log h card) w
   where
