@@ -15,7 +15,7 @@ mul-behind c = omega (arith, product-fits (c .before .args .buckets) (c .before 
 returns : tie.Need-returns
 returns c =
     let a = c .before .before .before .args in
-    (c .before .before .before .pre, ap (answered []) (c .refusal .ensures) ∙ first-large (a .buckets) (a .sectors) (a .td) (a .ti) (c .before .if1 .taken))
+    (c .before .before .before .pre, ap (answered []) (c .refusal .ensures) ∙ first-large (a .buckets) (a .sectors) (a .td) (a .ti) (omega (arith, c .before .if1 .taken)))
 
 slice-aggregate-format : tie.Need-slice-aggregate-format
 slice-aggregate-format c = simp length-take (omega (arith, c .before .before .before .pre .long))

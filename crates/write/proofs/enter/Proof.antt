@@ -1,5 +1,6 @@
 -- `write::enter` follows the rule's plan for an entry.
 use borrow.Author.Needs.{needs}
+use native.Mathlib.Omega.{arith}
 use mathlib.Core.Path.{_≡_, ap, sym, _∙_}
 use mathlib.Core.Option.{some}
 use Rattle.rules.specs.Layout.{headOf}
@@ -40,7 +41,7 @@ returns-3 c =
     let at-if1 = at-survey .before .before in
     let at-layout = at-if1 .before .before .before in
     let a = at-layout .before .before .before .before .before .args in
-    let is = stale (a .card .now) (a .e) _ (head-met at-layout) (at-if1 .if1 .left) _ (at-survey .survey .ensures) (c .before .if2 .taken) in
+    let is = stale (a .card .now) (a .e) _ (head-met at-layout) (at-if1 .if1 .left) (at-survey .survey .result) (at-survey .survey .ensures) (omega (arith, c .before .if2 .taken)) in
     let f = refuses _ (a .card .now) _ 3 is (c .refusal3 .ensures) in
     (f .answer, f .bytes)
 
@@ -59,7 +60,7 @@ returns-4 c =
     let at-if1 = at-survey .before .before in
     let at-layout = at-if1 .before .before .before in
     let a = at-layout .before .before .before .before .before .args in
-    let is = goes-in (a .card .now) (a .e) _ (head-met at-layout) (at-if1 .if1 .left) _ (at-survey .survey .ensures) (at-if2 .if2 .left) in
+    let is = goes-in (a .card .now) (a .e) _ (head-met at-layout) (at-if1 .if1 .left) (at-survey .survey .result) (at-survey .survey .ensures) (omega (arith, at-if2 .if2 .left)) in
     let l = at-insert .insert .ensures in
     let f = follows-same _ _ (a .card .now) _ _ is (record { answer = l .0; bytes = l .1 }) in
     (f .answer, f .bytes)
