@@ -23,11 +23,11 @@ abbrev pub best : (Entry → Entry → Bool) → Option Entry → Entry → Entr
 best q none p = p
 best q (some d) p = if (q d p) p d
 
-module _ (q : Entry → Entry → Bool) (order : Order q) where
-  some-if : (b : Bool) (p e : Entry) → if b (some p) (some e) ≡ some (if b p e)
-  some-if true p e = refl
-  some-if false p e = refl
+some-if : (b : Bool) (p e : Entry) → if b (some p) (some e) ≡ some (if b p e)
+some-if true p e = refl
+some-if false p e = refl
 
+module _ (q : Entry → Entry → Bool) (order : Order q) where
   better-best : (e : Entry) (r : Option Entry) (p : Entry) → better q e (some (best q r p)) ≡ some (best q (better q e r) p)
   better-best e none p = some-if (q e p) p e
   better-best e (some d) p =

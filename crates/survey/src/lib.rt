@@ -1,4 +1,4 @@
-// One pass over the bucket area: the largest stamp, and the highest bucket with a nonzero byte.
+// The bucket area looked through: the largest stamp, and the highest bucket with a nonzero byte.
 use rules::Head;
 ghost use mathlib.Core.Path.{_≡_};
 ghost use Prim.Native.Nat.{_+_, _*_, _≤_, max};
@@ -86,12 +86,12 @@ pub fn survey(card: &[u8], head: Head) -> Area
     requires { ⌜ Shape head (now card) ⌝ }
     ensures { λ r. ⌜ r ≡ surveyOf head (now (card .entry)) (head .n) ⌝ }
 {
-    let n = written(card, head);
+    let last = written(card, head);
     let m = head.m;
     let mut stamp: u32 = 0;
     let mut used = 0;
     let mut b = 0;
-    while b < n {
+    while b < last {
         b += 1;
         let part = bucket::bucket_part(card, head, b as u32);
         if blank(part) {
