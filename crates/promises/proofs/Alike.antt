@@ -10,7 +10,8 @@ use Rattle.rules.specs.declared.Entry.{Entry}
 use Rattle.rules.specs.declared.Head.{Head}
 use Rattle.rules.specs.Layout.{headOf, sizeOf}
 use Rattle.rules.specs.Walk.{Visit, standsOn, dataOf, walk, left}
-use Rattle.rules.specs.Next.{standingAbove}
+use Rattle.rules.specs.Next.{next}
+use Rattle.rules.specs.Calls.{Call}
 use Rattle.rules.specs.Look.{lookOn, lookIn, look}
 use Rattle.rules.specs.Write.{accept}
 use Rattle.rules.specs.Format.{format, formatted, meant}
@@ -25,9 +26,14 @@ use Rattle.tree.proofs.Tree.{some-inj}
 use Rattle.tree.proofs.Walks.{walk-late, alike-length, alike-data, alike-refl, alike-trans}
 use Rattle.tree.proofs.Climb.{upd}
 use Rattle.promises.specs.Promises.{CardsAnswerAlike}
-use Rattle.promises.specs.Calls.{Formatted, cardAfter, nextAsOf, found, accepted}
+use Rattle.tree.proofs.Found.{Found, found-one}
+use Rattle.tree.proofs.Hops.{given}
+use Rattle.promises.specs.Calls.{Formatted, AllSized, cardAfter, accepted}
+use Rattle.promises.specs.Reading.{upTo, lastFor, ifPost, standsAsOf}
+use Rattle.promises.proofs.Numbers.{formatted-plan}
+use Rattle.promises.proofs.Reading.{up-to-left}
 use Rattle.promises.proofs.Since.{Since, since-keeps, calls-since}
-use Rattle.promises.proofs.Truth.{formatted-keeps, next-tells-the-truth}
+use Rattle.promises.proofs.Truth.{formatted-keeps, formatted-head, calls-next}
 
 accept-inj : (c d : List ℕ) → accept c ≡ accept d → c ≡ d
 accept-inj c d e = cc
@@ -42,9 +48,9 @@ same-card c (e ∷ es) d b p q =
 same-format : (h : Head) (c d : List ℕ) → Formatted h c → Formatted h d → c ≡ d
 unfolding format
 same-format h c d f e =
-    let a = format-inv (f .0) (meant (f .1) (f .2) (f .3) (f .4)) c (f .5) in
-    let b = format-inv (e .0) (meant (e .1) (e .2) (e .3) (e .4)) d (e .5) in
-    let heads : meant (f .1) (f .2) (f .3) (f .4) ≡ meant (e .1) (e .2) (e .3) (e .4) = f .6 ∙ sym (e .6) in
+    let a = format-inv (f .0) (meant (f .1) (f .2) (f .3) (f .4)) c (formatted-plan h c f) in
+    let b = format-inv (e .0) (meant (e .1) (e .2) (e .3) (e .4)) d (formatted-plan h d e) in
+    let heads : meant (f .1) (f .2) (f .3) (f .4) ≡ meant (e .1) (e .2) (e .3) (e .4) = formatted-head h c f ∙ sym (formatted-head h d e) in
     sym (a .3) ∙ ap₂ formatted heads (zero-eq (f .0) (e .0) (a .2) (b .2) (a .1 ∙ ap sizeOf heads ∙ sym (b .1))) ∙ b .3
 
 -- every walk as of t meets the same buckets, with the same entries up to t
@@ -115,17 +121,27 @@ looks-alike h c g begin s ke t le es fs d b p q agree x lt =
     (sym (alike-length t (u .0) (u .1) (u .4)) ∙ ap length meet ∙ alike-length t (v .0) (v .1) (v .4))
     (sym (alike-data t (u .0) (u .1) (u .4)) ∙ ap (λ z. left t (dataOf z)) meet ∙ alike-data t (v .0) (v .1) (v .4))
 
-next-alike : (t k : ℕ) (es fs : List Entry) → left t es ≡ left t fs → nextAsOf t k es ≡ nextAsOf t k fs
-unfolding nextAsOf
-next-alike t k es fs agree = ap (standingAbove k) agree
+nexts-alike : (h : Head) (card other : List ℕ) → Formatted h card → Formatted h other → (calls others : List Call) → AllSized calls → AllSized others
+    → (t : ℕ) → upTo t (accepted card calls) ≡ upTo t (accepted other others) → (k : ℕ) → k < 4294967296
+    → next (cardAfter card calls) k t ≡ next (cardAfter other others) k t
+unfolding standsAsOf
+nexts-alike h card other f e calls others s z t agree k lt =
+    let one = calls-next h card f calls s k t lt in
+    let two = calls-next h other e others z k t lt in
+    let plain : List Entry → ℕ → Option Entry = λ es x. ifPost (lastFor x es) in
+    let same = found-one (plain (upTo t (accepted card calls))) k 4294967296 (one .0) (two .0) (one .2) (subst (λ es. Found (plain es) k 0 4294967296 (two .0)) (sym agree) (two .2)) in
+    one .1 ∙ ap given same ∙ sym (two .1)
 
 pub cards-answer-alike : CardsAnswerAlike
 cards-answer-alike h card other f e calls others s z t agree bib lt =
     let ke = formatted-keeps h card f in
     let ka = formatted-keeps h other e in
+    let es = accepted card calls in
+    let fs = accepted other others in
     let same : other ≡ card = same-format h other card e f in
     let since = calls-since h card (λ x. nothing) 0 0 ke calls s in
-    let since2 = subst (λ c. Since c (accepted other others) (cardAfter other others)) same (calls-since h other (λ x. nothing) 0 0 ka others z) in (
-      looks-alike h card (λ x. nothing) 0 0 ke t (omega arith) (accepted card calls) (accepted other others) (cardAfter card calls) (cardAfter other others) since since2 agree bib lt,
-      next-tells-the-truth h card f calls s bib t lt ∙ ap found (next-alike t bib (accepted card calls) (accepted other others) agree) ∙ sym (next-tells-the-truth h other e others z bib t lt),
+    let since2 = subst (λ c. Since c fs (cardAfter other others)) same (calls-since h other (λ x. nothing) 0 0 ka others z) in
+    let agrees = sym (up-to-left t es) ∙ agree ∙ up-to-left t fs in (
+      looks-alike h card (λ x. nothing) 0 0 ke t (omega arith) es fs (cardAfter card calls) (cardAfter other others) since since2 agrees bib lt,
+      nexts-alike h card other f e calls others s z t agree bib lt,
     )

@@ -1,3 +1,4 @@
+pub mod Numbers
 pub mod Since
 pub mod Reading
 pub mod Truth
@@ -5,3 +6,4 @@ pub mod Alike
 pub mod Overwritten
 pub mod Taken
 pub mod Settled
+pub mod Kept

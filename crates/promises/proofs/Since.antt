@@ -2,7 +2,7 @@
 use mathlib.Core.Path.{_≡_, refl, sym, ap, subst}
 use mathlib.Core.Option.{Option, some}
 use mathlib.Core.Bool.{true, false, Bool, not}
-use Prim.Native.Nat.{ℕ, _<_}
+use Prim.Native.Nat.{ℕ, zero, suc, _<_}
 use mathlib.Core.Logic.{inl, inr, ⊎-elim, _⊎_}
 use mathlib.Core.List.{List, [], _∷_, _++_}
 use lib.ListN.{length, getD}
@@ -11,7 +11,8 @@ use borrow.Author.Tests.{eqb-true}
 use native.Mathlib.Omega.{arith}
 use Rattle.rules.specs.declared.Entry.{Entry}
 use Rattle.rules.specs.declared.Head.{Head}
-use Rattle.rules.specs.Write.{Plan, refuse, accept, plan, planCard, post, strike, refuseIf}
+use Rattle.rules.specs.Answers.{refused}
+use Rattle.rules.specs.Write.{Plan, refuse, accept, plan, planCard, planAnswer, post, strike, refuseIf}
 use Rattle.rules.specs.Sector.{sectorAt, postEntry, strikeEntry, word}
 use Rattle.rules.specs.Plain.{zeros, _&_}
 use Rattle.rules.specs.Layout.{limits, headOf, headIn, headFields, sizeOf}
@@ -21,7 +22,8 @@ use Rattle.laws.proofs.Tools.{bool-cases, and-true, guard-true}
 use Rattle.laws.proofs.Zeros.{zeros-get, zero-sector}
 use Rattle.laws.proofs.Entries.{Asks, post-asks, strike-asks}
 use Rattle.tree.proofs.Keeps.{Keeps, more, keeps-step}
-use Rattle.promises.specs.Calls.{Sized, AllSized, cardAfter, ifAccepted, taken, accepted, Above}
+use Rattle.promises.specs.Calls.{Sized, AllSized, cardAfter, ifZero, taken, accepted, Above}
+use Rattle.promises.proofs.Numbers.{Numbered, plan-numbered}
 
 -- each entry in turn is accepted, and the last of the cards is d
 abbrev pub Since : List ℕ → List Entry → List ℕ → Type 0
@@ -72,16 +74,17 @@ format-refused c h q n m td ti =
 abbrev Step : List ℕ → List Entry → List ℕ → Type 0
 Step c es d = ((es ≡ []) × (d ≡ c)) ⊎ ((e : Entry) × Asks e × (plan c e ≡ accept d) × (es ≡ e ∷ []))
 
-plan-step : (c : List ℕ) (e : Entry) → Asks e → (p : Plan) → plan c e ≡ p → Step c (ifAccepted p e) (planCard c p)
-unfolding ifAccepted planCard
-plan-step c e a (refuse x) q = inl (refl, refl)
-plan-step c e a (accept new) q = inr (e, a, q, refl)
+plan-step : (c : List ℕ) (e : Entry) → Asks e → (p : Plan) → Numbered p → plan c e ≡ p → Step c (ifZero (planAnswer p .code) e) (planCard c p)
+unfolding ifZero planAnswer planCard refused
+plan-step c e a (refuse zero) n q = absurd (n refl)
+plan-step c e a (refuse (suc x)) n q = inl (refl, refl)
+plan-step c e a (accept new) n q = inr (e, a, q, refl)
 
 call-step : (h : Head) (c : List ℕ) → headOf c ≡ some h → (k : Call) → Sized k → Step c (taken c k) (called c k .card)
 unfolding called planned answered taken planCard post strike
 call-step h c hq (formatCall n m td ti) s = let f = format-refused c h hq n m td ti in inl (refl, ap (planCard c) (f .1))
-call-step h c hq (postCall bib at time) s = plan-step c (postEntry bib at time) (post-asks bib at time (s .0) (s .1) (s .2)) (plan c (postEntry bib at time)) refl
-call-step h c hq (strikeCall bib at) s = plan-step c (strikeEntry bib at) (strike-asks bib at (s .0) (s .1)) (plan c (strikeEntry bib at)) refl
+call-step h c hq (postCall bib at time) s = plan-step c (postEntry bib at time) (post-asks bib at time (s .0) (s .1) (s .2)) (plan c (postEntry bib at time)) (plan-numbered c (postEntry bib at time)) refl
+call-step h c hq (strikeCall bib at) s = plan-step c (strikeEntry bib at) (strike-asks bib at (s .0) (s .1)) (plan c (strikeEntry bib at)) (plan-numbered c (strikeEntry bib at)) refl
 call-step h c hq (lookCall bib t) s = inl (refl, refl)
 call-step h c hq (nextCall bib t) s = inl (refl, refl)
 

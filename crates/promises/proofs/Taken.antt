@@ -9,11 +9,14 @@ use borrow.Author.Tests.{lt-leb, ne-eqb, lt-ltb}
 use native.Mathlib.Omega.{arith}
 use Rattle.rules.specs.declared.Entry.{Entry}
 use Rattle.rules.specs.declared.Head.{Head}
+use Rattle.rules.specs.declared.Answer.{Answer}
 use Rattle.rules.specs.Rewrite.{Rise}
-use Rattle.rules.specs.Walk.{Visit}
-use Rattle.rules.specs.Write.{topUsed, Plan, refuseIf, stampOn, planOn, planAt, planFor, logFull, checked, refuse, rooted, climb, finish, plan, post, strike, latest}
+use Rattle.rules.specs.Walk.{Visit, walk}
+use Rattle.rules.specs.Write.{topUsed, Plan, refuseIf, stampOn, planOn, planAt, planFor, logFull, checked, refuse, rooted, climb, finish, plan, planAnswer, accept, post, strike, latest}
 use Rattle.rules.specs.Sector.{isPost, postEntry, strikeEntry}
 use Rattle.rules.specs.Plain.{isNone, _&_}
+use Rattle.rules.specs.Answers.{refused}
+use Rattle.rules.specs.Calls.{Call, postCall, strikeCall, called, planned}
 use Rattle.laws.proofs.Fresh.{freshAfter}
 use Rattle.laws.proofs.Tools.{le-or-lt, none-some}
 use Rattle.laws.proofs.Used.{used-within}
@@ -23,7 +26,8 @@ use Rattle.tree.proofs.Keeps.{Keeps, write-walk, keeps-write}
 use Rattle.tree.proofs.Tree.{some-inj}
 use Rattle.tree.proofs.Begin.{nothing}
 use Rattle.promises.specs.Promises.{TakenUnlessFull, PostIsTaken, StrikeIsTaken}
-use Rattle.promises.specs.Calls.{cardAfter, standsAsOf, accepted, needed, remaining}
+use Rattle.promises.specs.Calls.{cardAfter, accepted, needed, remaining}
+use Rattle.promises.specs.Reading.{standsAsOf}
 use Rattle.promises.proofs.Reading.{after-plain}
 use Rattle.promises.proofs.Truth.{calls-keep}
 use Rattle.promises.proofs.Since.{after}
@@ -47,11 +51,25 @@ too-few : (h : Head) (card : List ℕ) (e : Entry) (p : List Visit) → h .n + 1
 unfolding needed remaining freshAfter
 too-few h card e p gt = let le = used-within h card (h .n) in omega arith
 
+-- of a plan: it is accepted where the buckets needed remain, and else refused with 6
+abbrev PlanTaken : Head → List ℕ → Entry → Plan → Type 0
+PlanTaken h card e plan =
+    (p : List Visit) × (walk h card latest (e .key) ≡ some p)
+    × (((needed h card e p ≤ remaining h card) × ((new : List ℕ) × (plan ≡ accept new)))
+    ⊎ ((remaining h card < needed h card e p) × (plan ≡ refuse 6)))
+
+-- and so of the call that answers by it
+plan-answers : (h : Head) (card : List ℕ) (e : Entry) (k : Call) (plan : Plan) → called card k .answer ≡ planAnswer plan → PlanTaken h card e plan
+    → TakenUnlessFull h card e k
+unfolding planAnswer refused
+plan-answers h card e k plan is (p, w, inl t) = (p, w, inl (t .0, ap (λ (a : Answer). a .code) (is ∙ ap planAnswer (t .1 .1))))
+plan-answers h card e k plan is (p, w, inr t) = (p, w, inr (t .0, ap (λ (a : Answer). a .code) (is ∙ ap planAnswer (t .1))))
+
 module _ (h : Head) (card : List ℕ) (g : ℕ → ℕ → Option Entry) (begin s : ℕ) (ke : Keeps h card g begin s) (e : Entry) (asks : Asks e) (key : 1 ≤ e .key) (above : s < e .stamp) where
   abbrev p : List Visit
   p = write-walk h card g begin s ke e asks .0
 
-  on-taken : TakenUnlessFull h card e (planOn h card e p)
+  on-taken : PlanTaken h card e (planOn h card e p)
   on-taken = (
     p,
     write-walk h card g begin s ke e asks .1,
@@ -83,7 +101,7 @@ unfolding isPost
 strike-plan b bib at p = refl
 
 pub post-is-taken : PostIsTaken
-unfolding post
+unfolding called planned post
 post-is-taken h card f calls s bib at time b1 a1 z up =
     let k = calls-keep h card f calls s in
     let g = after (λ t. nothing) (accepted card calls) in
@@ -91,19 +109,20 @@ post-is-taken h card f calls s bib at time b1 a1 z up =
     let e = postEntry bib at time in
     let asks = post-asks bib at time (z .0) (z .1) (z .2) in
     let above = k .2 at a1 up in
-    subst (TakenUnlessFull h d e)
+    plan-answers h d e (postCall bib at time) (plan d e) refl (subst (PlanTaken h d e)
     (sym (plan-is h d g 0 (k .0) (k .1) e asks b1 above ∙ post-plan (isNone (g latest bib)) bib at time (planOn h d e (write-walk h d g 0 (k .0) (k .1) e asks .0))))
-    (on-taken h d g 0 (k .0) (k .1) e asks b1 above)
+    (on-taken h d g 0 (k .0) (k .1) e asks b1 above))
 
 -- a strike where o stands
-struck : (h : Head) (card : List ℕ) (e : Entry) (o : Option Entry) (q p : Plan) → TakenUnlessFull h card e p → q ≡ refuseIf (isNone o) 5 p
-    → ((o ≡ none) × (q ≡ refuse 5)) ⊎ ((o ≡ none → ⊥) × TakenUnlessFull h card e q)
-unfolding isNone refuseIf
-struck h card e none q p t eq = inl (refl, eq)
-struck h card e (some d) q p t eq = inr ((λ n. none-some (sym n)), subst (TakenUnlessFull h card e) (sym eq) t)
+struck : (h : Head) (card : List ℕ) (e : Entry) (o : Option Entry) (k : Call) (q p : Plan) → called card k .answer ≡ planAnswer q → PlanTaken h card e p
+    → q ≡ refuseIf (isNone o) 5 p
+    → ((o ≡ none) × (called card k .answer .code ≡ 5)) ⊎ ((o ≡ none → ⊥) × TakenUnlessFull h card e k)
+unfolding isNone refuseIf planAnswer refused
+struck h card e none k q p is t eq = inl (refl, ap (λ (a : Answer). a .code) (is ∙ ap planAnswer eq))
+struck h card e (some d) k q p is t eq = inr ((λ n. none-some (sym n)), plan-answers h card e k q is (subst (PlanTaken h card e) (sym eq) t))
 
 pub strike-is-taken : StrikeIsTaken
-unfolding strike
+unfolding called planned strike
 strike-is-taken h card f calls s bib at b1 a1 z up =
     let k = calls-keep h card f calls s in
     let es = accepted card calls in
@@ -113,6 +132,6 @@ strike-is-taken h card f calls s bib at b1 a1 z up =
     let asks = strike-asks bib at (z .0) (z .1) in
     let above = k .2 at a1 up in
     let on = planOn h d e (write-walk h d g 0 (k .0) (k .1) e asks .0) in
-    struck h d e (standsAsOf latest bib es) (plan d e) on (on-taken h d g 0 (k .0) (k .1) e asks b1 above)
+    struck h d e (standsAsOf latest bib es) (strikeCall bib at) (plan d e) on refl (on-taken h d g 0 (k .0) (k .1) e asks b1 above)
     (plan-is h d g 0 (k .0) (k .1) e asks b1 above ∙ strike-plan (isNone (g latest bib)) bib at on
     ∙ ap (λ o. refuseIf (isNone o) 5 on) (after-plain es latest bib))

@@ -2,7 +2,8 @@
 use mathlib.Core.Option.{Option, none, some}
 use Prim.Native.Nat.{ℕ, _≤_, _<_}
 use mathlib.Core.Path.{refl, sym, ap, subst, _∙_, _≡_}
-use mathlib.Core.List.{List, [], _∷_}
+use mathlib.Core.Logic.{inl, inr}
+use mathlib.Core.List.{List}
 use lib.ListN.{length}
 use borrow.Author.Tests.{ne-eqb}
 use native.Mathlib.Omega.{arith}
@@ -10,22 +11,29 @@ use Rattle.rules.specs.declared.Entry.{Entry}
 use Rattle.rules.specs.declared.Head.{Head}
 use Rattle.rules.specs.Walk.{Visit, walk}
 use Rattle.rules.specs.Calls.{Call}
+use Rattle.rules.specs.Next.{next}
+use Rattle.rules.specs.Format.{meant}
 use Rattle.rules.specs.Look.{lookOn, lookIn, look}
 use Rattle.rules.specs.Answers.{sheet}
-use Rattle.laws.proofs.Lists.{All}
-use Rattle.laws.proofs.Entries.{asks-small}
 use Rattle.tree.proofs.Begin.{format-keeps, nothing}
 use Rattle.tree.proofs.Ends.{ends-here}
-use Rattle.tree.proofs.Found.{found-one, found-ext}
+use Rattle.tree.proofs.Found.{Found, found-ext}
 use Rattle.tree.proofs.Keeps.{Keeps, keeps-next}
 use Rattle.tree.proofs.Hops.{given}
-use Rattle.promises.specs.Promises.{LookTellsTheTruth, ReadsCountThePath, NextTellsTheTruth}
-use Rattle.promises.specs.Calls.{Formatted, AllSized, cardAfter, standsAsOf, nextAsOf, Above, accepted, found}
-use Rattle.promises.proofs.Reading.{after-plain, plain-found}
-use Rattle.promises.proofs.Since.{Since, since-keeps, calls-since, after}
+use Rattle.tree.proofs.Tree.{some-inj}
+use Rattle.promises.specs.Promises.{LookTellsTheTruth, ReadsCountThePath, Smallest, NextTellsTheTruth}
+use Rattle.promises.specs.Calls.{Formatted, AllSized, cardAfter, Above, accepted}
+use Rattle.promises.specs.Reading.{standsAsOf}
+use Rattle.promises.proofs.Numbers.{formatted-plan}
+use Rattle.promises.proofs.Reading.{after-plain}
+use Rattle.promises.proofs.Since.{since-keeps, calls-since, after}
+
+pub formatted-head : (h : Head) (card : List ℕ) (f : Formatted h card) → meant (f .1) (f .2) (f .3) (f .4) ≡ h
+formatted-head h card f = some-inj (sym (format-keeps (f .0) (f .1) (f .2) (f .3) (f .4) card (formatted-plan h card f) .state .head) ∙ f .7)
 
 pub formatted-keeps : (h : Head) (card : List ℕ) → Formatted h card → Keeps h card (λ t. nothing) 0 0
-formatted-keeps h card f = subst (λ z. Keeps z card (λ t. nothing) 0 0) (f .6) (format-keeps (f .0) (f .1) (f .2) (f .3) (f .4) card (f .5))
+formatted-keeps h card f =
+    subst (λ z. Keeps z card (λ t. nothing) 0 0) (formatted-head h card f) (format-keeps (f .0) (f .1) (f .2) (f .3) (f .4) card (formatted-plan h card f))
 
 -- the card after the calls answers for the entries accepted
 pub calls-keep : (h : Head) (card : List ℕ) → Formatted h card → (calls : List Call) → AllSized calls
@@ -63,24 +71,20 @@ reads-count-the-path h card f calls s bib t lo hi =
     let l = keeps-look h (cardAfter card calls) es (k .0) (k .1) bib t lo hi in
     (l .0, l .1, ap (λ a. a .reads) (l .2) ∙ sheet-reads bib (length (l .0)) (standsAsOf t bib es))
 
-since-small : (c : List ℕ) (es : List Entry) (d : List ℕ) → Since c es d → All (λ e. e .key < 4294967296) es
-since-small c [] d q = tt
-since-small c (e ∷ es) d q = (asks-small e (q .1), since-small (q .0) es d (q .3))
+given-smallest : (g : ℕ → Option Entry) (k : ℕ) (r : Option Entry) → Found g k 0 4294967296 r → Smallest g k (given r)
+given-smallest g k r (inl f) = inl (λ b kb bh. f .1 b (omega arith) bh kb, ap given (f .0))
+given-smallest g k r (inr f) = inr (f .0 .key, f .0, f .2, f .4, λ b kb be. f .5 b (omega arith) kb be, ap given (f .1))
 
-given-found : (r : Option Entry) → given r ≡ found r
-unfolding found
-given-found none = refl
-given-found (some e) = refl
+-- what next gives on the card after the calls, by the plain reading
+pub calls-next : (h : Head) (card : List ℕ) → Formatted h card → (calls : List Call) → AllSized calls → (k t : ℕ) → k < 4294967296
+    → (r : Option Entry) × (next (cardAfter card calls) k t ≡ given r) × Found (λ x. standsAsOf t x (accepted card calls)) k 0 4294967296 r
+calls-next h card f calls s k t lt =
+    let es = accepted card calls in
+    let kept = calls-keep h card f calls s in
+    let n = keeps-next h (cardAfter card calls) (after (λ z. nothing) es) 0 (kept .0) (kept .1) k t (omega arith) lt in
+    (n .0, n .1, found-ext (after (λ z. nothing) es t) (λ x. standsAsOf t x es) k 0 4294967296 (n .0) (after-plain es t) (n .2))
 
 pub next-tells-the-truth : NextTellsTheTruth
 next-tells-the-truth h card f calls s k t lt =
-    let ke = formatted-keeps h card f in
-    let es = accepted card calls in
-    let d = cardAfter card calls in
-    let since = calls-since h card (λ z. nothing) 0 0 ke calls s in
-    let kept = calls-keep h card f calls s in
-    let n = keeps-next h d (after (λ z. nothing) es) 0 (kept .0) (kept .1) k t (omega arith) lt in
-    let plain = plain-found es k t (since-small card es d since) in
-    let same : n .0 ≡ nextAsOf t k es = found-one (after (λ z. nothing) es t) k 4294967296 (n .0) (nextAsOf t k es) (n .2)
-    (found-ext (λ x. standsAsOf t x es) (after (λ z. nothing) es t) k 0 4294967296 (nextAsOf t k es) (λ x. sym (after-plain es t x)) plain) in
-    n .1 ∙ given-found (n .0) ∙ ap found same
+    let n = calls-next h card f calls s k t lt in
+    subst (Smallest (λ x. standsAsOf t x (accepted card calls)) k) (sym (n .1)) (given-smallest (λ x. standsAsOf t x (accepted card calls)) k (n .0) (n .2))

@@ -4,21 +4,23 @@ use mathlib.Core.Logic.{_⊎_}
 use mathlib.Core.Bool.{false}
 use Prim.Native.Nat.{ℕ, _≤_, _<_}
 use mathlib.Core.List.{List, [], _∷_}
-use mathlib.Core.Option.{none, some}
+use mathlib.Core.Option.{Option, none, some}
 use lib.ListN.{length, getD, replicate}
 use Rattle.rules.specs.declared.Entry.{Entry}
 use Rattle.rules.specs.declared.Head.{Head}
+use Rattle.rules.specs.declared.Answer.{Answer}
 use Rattle.rules.specs.declared.Digits.{Digits}
 use Rattle.rules.specs.Plain.{zeros}
 use Rattle.rules.specs.Sector.{sectorAt, put, postEntry, strikeEntry}
-use Rattle.rules.specs.Walk.{Visit, left, walk}
-use Rattle.rules.specs.Answers.{refused, sheet}
+use Rattle.rules.specs.Walk.{Visit, walk}
+use Rattle.rules.specs.Answers.{answer, refused, sheet, ended}
 use Rattle.rules.specs.Look.{look}
 use Rattle.rules.specs.Next.{next}
-use Rattle.rules.specs.Write.{Plan, refuse, accept, latest, post, strike}
+use Rattle.rules.specs.Write.{latest}
 use Rattle.rules.specs.Panel.{panel}
 use Rattle.rules.specs.Calls.{Call, postCall, strikeCall, lookCall, nextCall, Done, called}
-use Rattle.promises.specs.Calls.{Formatted, Sized, AllSized, cardAfter, accepted, standsAsOf, nextAsOf, found, Above, needed, remaining}
+use Rattle.promises.specs.Calls.{Accepted, Formatted, Sized, AllSized, cardAfter, accepted, Above, needed, remaining}
+use Rattle.promises.specs.Reading.{upTo, standsAsOf}
 
 -- 1. A look answers 0, the bib, and the stamp and time of the last accepted entry for it stamped t or earlier if that is a post,
 -- else stamp 0 and time 0. It never answers damage.
@@ -33,11 +35,18 @@ ReadsCountThePath =
     (h : Head) (card : List ℕ) → Formatted h card → (calls : List Call) → AllSized calls → (bib t : ℕ) → 1 ≤ bib → bib < 4294967296
     → (p : List Visit) × (walk h (cardAfter card calls) t bib ≡ some p) × (look (cardAfter card calls) bib t .reads ≡ length p)
 
--- 2. A next answers the smallest bib above k that stands as of t, with its stamp and time; the end exactly when none does.
+-- an answer to next: the end where nothing stands above k, else the smallest bib that does, with its stamp and time
+abbrev pub Smallest : (ℕ → Option Entry) → ℕ → Answer → Type 0
+Smallest stands k a =
+    (((b : ℕ) → k < b → b < 4294967296 → stands b ≡ none) × (a ≡ ended))
+    ⊎ ((bib : ℕ) × (e : Entry) × (k < bib) × (stands bib ≡ some e) × ((b : ℕ) → k < b → b < bib → stands b ≡ none)
+    × (a ≡ answer 0 bib (e .stamp) (e .value) 0))
+
+-- 2. A next answers the smallest bib above k that stands as of t by the same reading as a look's; the end exactly when none does.
 abbrev pub NextTellsTheTruth : Type 0
 NextTellsTheTruth =
     (h : Head) (card : List ℕ) → Formatted h card → (calls : List Call) → AllSized calls → (k t : ℕ) → k < 4294967296
-    → next (cardAfter card calls) k t ≡ found (nextAsOf t k (accepted card calls))
+    → Smallest (λ bib. standsAsOf t bib (accepted card calls)) k (next (cardAfter card calls) k t)
 
 -- 3. Two cards with the same four numbers in the head whose accepted entries stamped up to t agree
 -- answer every look and next as of t alike, reads included.
@@ -45,7 +54,7 @@ abbrev pub CardsAnswerAlike : Type 0
 CardsAnswerAlike =
     (h : Head) (card other : List ℕ) → Formatted h card → Formatted h other
     → (calls others : List Call) → AllSized calls → AllSized others
-    → (t : ℕ) → left t (accepted card calls) ≡ left t (accepted other others)
+    → (t : ℕ) → upTo t (accepted card calls) ≡ upTo t (accepted other others)
     → (bib : ℕ) → bib < 4294967296
     → (look (cardAfter card calls) bib t ≡ look (cardAfter other others) bib t)
     × (next (cardAfter card calls) bib t ≡ next (cardAfter other others) bib t)
@@ -79,12 +88,12 @@ NothingIsOverwritten =
     × ((j : ℕ) → zeros (sectorAt card j) ≡ false → sectorAt (called card k .card) j ≡ sectorAt card j)
     × ((is : List ℕ) × AllDifferent is × WrittenAt card is (called card k .card))
 
--- a write of e is accepted where the fresh buckets needed remain, and else refused with 6
-abbrev pub TakenUnlessFull : Head → List ℕ → Entry → Plan → Type 0
-TakenUnlessFull h card e plan =
+-- a call that writes e is accepted where the fresh buckets needed remain, and else refused with 6
+abbrev pub TakenUnlessFull : Head → List ℕ → Entry → Call → Type 0
+TakenUnlessFull h card e k =
     (p : List Visit) × (walk h card latest (e .key) ≡ some p)
-    × (((needed h card e p ≤ remaining h card) × ((new : List ℕ) × (plan ≡ accept new)))
-    ⊎ ((remaining h card < needed h card e p) × (plan ≡ refuse 6)))
+    × (((needed h card e p ≤ remaining h card) × Accepted card k)
+    ⊎ ((remaining h card < needed h card e p) × (called card k .answer .code ≡ 6)))
 
 -- 5. Nothing is refused without cause: a post with a bib from 1 and a stamp above every accepted one is accepted
 -- unless too few fresh buckets are left; the log has always room.
@@ -92,16 +101,16 @@ abbrev pub PostIsTaken : Type 0
 PostIsTaken =
     (h : Head) (card : List ℕ) → Formatted h card → (calls : List Call) → AllSized calls
     → (bib at time : ℕ) → 1 ≤ bib → 1 ≤ at → Sized (postCall bib at time) → Above at (accepted card calls)
-    → TakenUnlessFull h (cardAfter card calls) (postEntry bib at time) (post (cardAfter card calls) bib at time)
+    → TakenUnlessFull h (cardAfter card calls) (postEntry bib at time) (postCall bib at time)
 
 -- A strike likewise, where something stands; where nothing does it is refused with 5.
 abbrev pub StrikeIsTaken : Type 0
 StrikeIsTaken =
     (h : Head) (card : List ℕ) → Formatted h card → (calls : List Call) → AllSized calls
     → (bib at : ℕ) → 1 ≤ bib → 1 ≤ at → Sized (strikeCall bib at) → Above at (accepted card calls)
-    → ((standsAsOf latest bib (accepted card calls) ≡ none) × (strike (cardAfter card calls) bib at ≡ refuse 5))
+    → ((standsAsOf latest bib (accepted card calls) ≡ none) × (called (cardAfter card calls) (strikeCall bib at) .answer .code ≡ 5))
     ⊎ ((standsAsOf latest bib (accepted card calls) ≡ none → ⊥)
-    × TakenUnlessFull h (cardAfter card calls) (strikeEntry bib at) (strike (cardAfter card calls) bib at))
+    × TakenUnlessFull h (cardAfter card calls) (strikeEntry bib at) (strikeCall bib at))
 
 -- an outcome, answer and bytes afterwards, that fits what is said of a call on a card
 abbrev pub FitsCall : List ℕ → Call → Done → Type 0
@@ -123,3 +132,17 @@ RefusedMeansUnchanged =
 -- Reads never change the card.
 abbrev pub ReadsChangeNothing : Type 0
 ReadsChangeNothing = (card : List ℕ) (bib t : ℕ) → (called card (lookCall bib t) .card ≡ card) × (called card (nextCall bib t) .card ≡ card)
+
+-- All that is promised. `promised` in src/ asks for a term of it, so that a promise without its proof fails the check.
+pub record Promises : Type 0 where
+  pub look-tells-the-truth : LookTellsTheTruth
+  pub reads-count-the-path : ReadsCountThePath
+  pub next-tells-the-truth : NextTellsTheTruth
+  pub cards-answer-alike : CardsAnswerAlike
+  pub nothing-is-overwritten : NothingIsOverwritten
+  pub post-is-taken : PostIsTaken
+  pub strike-is-taken : StrikeIsTaken
+  pub calls-are-settled : CallsAreSettled
+  pub panel-is-settled : PanelIsSettled
+  pub refused-means-unchanged : RefusedMeansUnchanged
+  pub reads-change-nothing : ReadsChangeNothing

@@ -1,0 +1,23 @@
+-- Every promise is kept.
+use Rattle.promises.specs.Promises.{Promises}
+use Rattle.promises.proofs.Truth.{look-tells-the-truth, reads-count-the-path, next-tells-the-truth}
+use Rattle.promises.proofs.Alike.{cards-answer-alike}
+use Rattle.promises.proofs.Overwritten.{nothing-is-overwritten}
+use Rattle.promises.proofs.Taken.{post-is-taken, strike-is-taken}
+use Rattle.promises.proofs.Settled.{calls-are-settled, panel-is-settled, refused-means-unchanged, reads-change-nothing}
+
+pub all-kept : Promises
+all-kept =
+    record {
+      look-tells-the-truth = look-tells-the-truth;
+      reads-count-the-path = reads-count-the-path;
+      next-tells-the-truth = next-tells-the-truth;
+      cards-answer-alike = cards-answer-alike;
+      nothing-is-overwritten = nothing-is-overwritten;
+      post-is-taken = post-is-taken;
+      strike-is-taken = strike-is-taken;
+      calls-are-settled = calls-are-settled;
+      panel-is-settled = panel-is-settled;
+      refused-means-unchanged = refused-means-unchanged;
+      reads-change-nothing = reads-change-nothing;
+    }
