@@ -1,4 +1,3 @@
 pub mod Lines
 pub mod Opened
-pub mod Growing
-pub mod Session
+pub mod Pins

@@ -10,19 +10,23 @@ use Rattle.rules.specs.declared.Sector.the-variants.{Blank, Held, Damage
 use Rattle.rules.specs.declared.Answer.{Answer}
 use Rattle.rules.specs.declared.Digits.{Digits}
 use Rattle.rules.specs.Plain.{_&_}
-use Rattle.rules.specs.Sector.{sectorAt, decode}
+use Rattle.rules.specs.Sector.{sectorAt, put, decode}
 use Rattle.rules.specs.Layout.{headOf, base}
 use Rattle.rules.specs.Write.{topUsed}
 use Rattle.rules.specs.Panel.{panel}
 use Rattle.rules.specs.Calls.{Call}
 use Rattle.rules.specs.Bench.{benchCall}
 
--- no card any more; a call and its answer; a bucket and its m sectors; the log's first sectors; the highest bucket written; a time, a field, the number and places it gives
+-- no card any more; a call and its answer; other bytes in a sector; a call and its answer on the card with other bytes in a sector;
+-- a bucket and its m sectors; the log's first sectors; a sector's bytes; the highest bucket written; a time, a field, the number and places it gives
 pub data Line : Type 0 where
   anew : Line
   says : Call → Answer → Line
+  writes : ℕ → List ℕ → Line
+  spoilt : ℕ → List ℕ → Call → Answer → Line
   holds : ℕ → List Sector → Line
   logs : List Sector → Line
+  bytes : ℕ → List ℕ → Line
   used : ℕ → Line
   shows : ℕ → ℕ → ℕ → List ℕ → Line
 
@@ -71,16 +75,22 @@ sameDigits d c ps = eqb (d .code) c & same (d .places) ps
 unfoldable pub right : List ℕ → Line → Bool
 right card anew = true
 right card (says k a) = sameAnswer (benchCall card k .answer) a
+right card (writes i bs) = true
+right card (spoilt i bs k a) = sameAnswer (benchCall (put card i bs) k .answer) a
 right card (holds b ss) = holdsIn card (headOf card) b ss
 right card (logs ss) = logsIn card (headOf card) ss
+right card (bytes i bs) = same (sectorAt card i) bs
 right card (used k) = usedIn card (headOf card) k
 right card (shows time field c ps) = sameDigits (panel time field) c ps
 
 unfoldable pub cardNext : List ℕ → Line → List ℕ
 cardNext card anew = []
 cardNext card (says k a) = benchCall card k .card
+cardNext card (writes i bs) = put card i bs
+cardNext card (spoilt i bs k a) = card
 cardNext card (holds b ss) = card
 cardNext card (logs ss) = card
+cardNext card (bytes i bs) = card
 cardNext card (used k) = card
 cardNext card (shows time field c ps) = card
 

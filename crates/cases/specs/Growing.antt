@@ -2,13 +2,12 @@
 use Prim.Native.Nat.{ℕ}
 use mathlib.Core.List.{List, [], _∷_}
 use lib.Dec.{T}
-use Rattle.rules.proofs.Opened.{rules}
 use Rattle.rules.specs.declared.Sector.{Sector}
 use Rattle.rules.specs.declared.Sector.the-variants.{Blank, Held}
 use Rattle.rules.specs.Sector.{postEntry, strikeEntry, indexEntry, rootEntry}
 use Rattle.rules.specs.Answers.{answer, refused}
 use Rattle.rules.specs.Calls.{Call, formatCall, postCall, strikeCall, lookCall}
 use Rattle.rules.proofs.Lines.{Line, anew, says, holds, logs, used, shows, passes}
 
 abbrev post : ℕ → ℕ → ℕ → Sector
 post bib at time = Held (postEntry bib at time)
@@ -119,6 +118,5 @@ growing =
     -- (d) with N = 7 that last post is answer 6, and the card stays; with N = 8 it is accepted
     ∷ upTo90 7 (says (postCall 14 100 5) (refused 6) ∷ used 5 ∷ logs (root 0 1 ∷ Blank ∷ []) ∷ upTo90 8 (ok (postCall 14 100 5) ∷ used 8 ∷ panels))
 
-pub growing-passes : T (passes [] growing)
-unfolding rules
-growing-passes = tt
+abbrev pub GrowsAsSaid : Type 0
+GrowsAsSaid = T (passes [] growing)

@@ -1,0 +1,222 @@
+-- What cases (a) to (h) leave open: the bytes themselves, the defaults, the limits, each refusal in its order, each kind of damage,
+-- and the strike just added. One statement over one list, which the checker computes.
+use Prim.Native.Nat.{ℕ}
+use mathlib.Core.List.{List, [], _∷_, _++_}
+use lib.Dec.{T}
+use Rattle.rules.proofs.Opened.{rules}
+use Rattle.rules.specs.declared.Sector.{Sector}
+use Rattle.rules.specs.declared.Sector.the-variants.{Blank, Held}
+use Rattle.rules.specs.Sector.{postEntry, strikeEntry, indexEntry, rootEntry}
+use Rattle.rules.specs.Answers.{answer, refused}
+use Rattle.rules.specs.Calls.{Call, formatCall, postCall, strikeCall, lookCall, nextCall}
+use Rattle.rules.proofs.Lines.{Line, anew, says, writes, spoilt, holds, logs, bytes, used, shows, passes}
+
+abbrev ok : Call → Line
+ok k = says k (answer 0 0 0 0 0)
+
+-- a sector of numbers below 256, byte for byte: kind, byte 1, key, stamp, value
+abbrev raw : ℕ → ℕ → ℕ → ℕ → ℕ → List ℕ
+raw kind other key stamp value = kind ∷ other ∷ 0 ∷ 0 ∷ key ∷ 0 ∷ 0 ∷ 0 ∷ stamp ∷ 0 ∷ 0 ∷ 0 ∷ value ∷ 0 ∷ 0 ∷ 0 ∷ []
+
+-- the head's bytes: m, TD, TI, N
+abbrev head : ℕ → ℕ → ℕ → ℕ → List ℕ
+head m td ti n = 6 ∷ m ∷ td ∷ ti ∷ n ∷ 0 ∷ 0 ∷ 0 ∷ 0 ∷ 0 ∷ 0 ∷ 0 ∷ 0 ∷ 0 ∷ 0 ∷ 0 ∷ []
+
+-- "a TD of 0 means floor(3m/4), a TI of 0 means m - floor(m/8)"
+abbrev default : ℕ → ℕ → ℕ → List Line
+default m td ti = anew ∷ ok (formatCall 2 m 0 0) ∷ bytes 0 (head m td ti 2) ∷ []
+
+abbrev defaults : List Line
+defaults = default 4 3 4 ++ (default 5 3 5 ++ (default 7 5 7 ++ (default 8 6 7 ++ (default 15 11 14 ++ default 32 24 28))))
+
+-- "m 4..32, N 2..4096, TD 2..m, TI 4..m", each at its border
+abbrev limits : List Line
+limits =
+    anew
+    ∷ says (formatCall 2 3 2 0) (refused 8)
+    ∷ says (formatCall 2 33 0 0) (refused 8)
+    ∷ says (formatCall 1 4 0 0) (refused 8)
+    ∷ says (formatCall 2 8 1 0) (refused 8)
+    ∷ says (formatCall 2 8 9 0) (refused 8)
+    ∷ says (formatCall 2 8 0 3) (refused 8)
+    ∷ says (formatCall 2 8 0 9) (refused 8)
+    ∷ ok (formatCall 2 8 2 4)
+    ∷ bytes 0 (head 8 2 4 2)
+    ∷ anew
+    ∷ ok (formatCall 2 8 8 8)
+    ∷ bytes 0 (head 8 8 8 2)
+    ∷ []
+
+-- the bytes of head, root entry, index entry, dummy and a post; refusals in their order, on a card of two buckets of four sectors
+abbrev two : List Line
+two =
+    anew
+    -- 1 ahead of 2
+    ∷ says (postCall 0 0 0) (refused 1)
+    ∷ says (lookCall 0 0) (refused 1)
+    ∷ says (nextCall 0 0) (refused 1)
+    ∷ ok (formatCall 2 4 3 4)
+    ∷ bytes 0 (head 4 3 4 2)
+    ∷ bytes 1 (raw 4 0 0 0 1)
+    ∷ bytes 2 (raw 0 0 0 0 0)
+    ∷ bytes 3 (raw 3 0 0 0 2)
+    ∷ bytes 4 (raw 0 0 0 0 0)
+    ∷ bytes 7 (raw 2 0 0 0 0)
+    ∷ bytes 8 (raw 0 0 0 0 0)
+    -- 8 ahead of 9
+    ∷ says (formatCall 3 4 3 4) (refused 8)
+    ∷ says (formatCall 2 4 3 4) (refused 9)
+    -- 2 ahead of 3, 3 ahead of 5, and 3 where no stamp is; a next has no 2
+    ∷ says (postCall 0 0 1) (refused 2)
+    ∷ says (strikeCall 0 0) (refused 2)
+    ∷ says (lookCall 0 9) (refused 2)
+    ∷ says (nextCall 0 9) (answer 0 0 0 0 0)
+    ∷ says (postCall 1 0 1) (refused 3)
+    ∷ says (strikeCall 1 0) (refused 3)
+    ∷ says (strikeCall 1 1) (refused 5)
+    ∷ says (lookCall 1 9) (answer 0 1 0 0 2)
+    ∷ ok (postCall 16909060 772 61230)
+    ∷ bytes 8 (1 ∷ 0 ∷ 0 ∷ 0 ∷ 4 ∷ 3 ∷ 2 ∷ 1 ∷ 4 ∷ 3 ∷ 0 ∷ 0 ∷ 46 ∷ 239 ∷ 0 ∷ 0 ∷ [])
+    ∷ says (lookCall 16909060 772) (answer 0 16909060 772 61230 2)
+    ∷ says (lookCall 16909060 771) (answer 0 16909060 0 0 2)
+    ∷ says (nextCall 16909059 772) (answer 0 16909060 772 61230 0)
+    ∷ says (nextCall 16909060 772) (answer 0 0 0 0 0)
+    ∷ says (postCall 2 772 1) (refused 3)
+    ∷ ok (postCall 2 773 1)
+    ∷ ok (postCall 3 774 1)
+    -- 3 ahead of 6, and 5 ahead of 6, on a card that is full
+    ∷ says (postCall 3 774 1) (refused 3)
+    ∷ says (strikeCall 4 775) (refused 5)
+    ∷ says (postCall 4 775 1) (refused 6)
+    ∷ says (strikeCall 3 775) (refused 6)
+    ∷ []
+
+-- on that card with one sector changed: sector 0 is the head, 1 and 2 the log, 3..6 bucket 1, 7..10 bucket 2
+abbrev look1 : Call
+look1 = lookCall 1 9
+
+-- the walk meets damage
+abbrev broken : ℕ → List ℕ → Line
+broken i bs = spoilt i bs look1 (refused 4)
+
+-- or does not: nothing stands for bib 1, two buckets read
+abbrev sound : ℕ → List ℕ → Line
+sound i bs = spoilt i bs look1 (answer 0 1 0 0 2)
+
+abbrev damage : List Line
+damage =
+    anew
+    ∷ ok (formatCall 2 4 3 4)
+    -- the head
+    ∷ spoilt 0 (head 4 3 4 3) look1 (refused 1)
+    ∷ spoilt 0 (head 4 1 4 2) look1 (refused 1)
+    ∷ spoilt 0 (head 4 0 4 2) look1 (refused 1)
+    ∷ spoilt 0 (6 ∷ 4 ∷ 3 ∷ 4 ∷ 2 ∷ 0 ∷ 0 ∷ 0 ∷ 0 ∷ 0 ∷ 0 ∷ 0 ∷ 0 ∷ 0 ∷ 0 ∷ 1 ∷ []) look1 (refused 1)
+    ∷ spoilt 0 (raw 7 4 0 0 0) look1 (refused 1)
+    -- the rows of the table, in the log, in the index bucket, in the data bucket
+    ∷ broken 1 (raw 4 0 1 0 1)
+    ∷ broken 1 (raw 4 0 0 0 0)
+    ∷ broken 1 (raw 4 0 0 0 3)
+    ∷ broken 1 (raw 4 1 0 0 1)
+    ∷ broken 3 (raw 3 0 0 0 0)
+    ∷ broken 3 (raw 3 0 0 0 3)
+    ∷ broken 8 (raw 1 0 0 1 1)
+    ∷ broken 8 (raw 1 0 5 0 1)
+    ∷ broken 8 (raw 1 1 5 1 1)
+    ∷ broken 8 (raw 2 0 5 1 1)
+    ∷ broken 8 (raw 2 0 0 1 0)
+    ∷ sound 8 (raw 2 0 5 0 0)
+    ∷ broken 8 (raw 5 0 5 1 1)
+    ∷ broken 8 (raw 6 0 5 1 1)
+    ∷ broken 8 (raw 255 0 0 0 0)
+    ∷ broken 8 (raw 0 0 5 0 0)
+    -- a run from the start, at least one, then blanks; the kinds of log, index and data
+    ∷ broken 1 (raw 0 0 0 0 0)
+    ∷ broken 3 (raw 0 0 0 0 0)
+    ∷ broken 7 (raw 0 0 0 0 0)
+    ∷ broken 9 (raw 1 0 5 1 1)
+    ∷ sound 8 (raw 1 0 5 1 1)
+    ∷ broken 2 (raw 3 0 0 0 1)
+    ∷ broken 4 (raw 1 0 5 1 1)
+    ∷ broken 8 (raw 3 0 5 0 2)
+    ∷ broken 8 (raw 4 0 0 0 1)
+    -- the header: no key below it, and it is the key followed, 0 for the root
+    ∷ broken 3 (raw 3 0 1 0 2)
+    ∷ broken 7 (raw 1 0 1 1 1)
+    ∷ spoilt 7 (raw 1 0 5 1 1) look1 (refused 4)
+    -- entries left as of t, in the log and in the index; a root that is a data bucket; N buckets without data
+    ∷ broken 1 (raw 4 0 0 10 1)
+    ∷ broken 3 (raw 3 0 0 10 2)
+    ∷ spoilt 1 (raw 4 0 0 9 2) look1 (answer 0 1 0 0 1)
+    ∷ broken 3 (raw 3 0 0 0 1)
+    -- the last root entry left is by place, and a log that is full has no blank
+    ∷ spoilt 2 (raw 4 0 0 0 2) look1 (answer 0 1 0 0 1)
+    ∷ spoilt 2 (raw 4 0 0 10 2) look1 (answer 0 1 0 0 2)
+    -- 2 and 3 ahead of 4, 4 ahead of 5; the stamp of a damaged sector counts, that of kind 0 and that of the log do not
+    ∷ spoilt 8 (raw 7 0 5 9 0) (postCall 0 10 1) (refused 2)
+    ∷ spoilt 8 (raw 7 0 5 9 0) (postCall 1 9 1) (refused 3)
+    ∷ spoilt 8 (raw 7 0 5 9 0) (strikeCall 1 10) (refused 4)
+    ∷ spoilt 8 (raw 0 0 5 9 0) (postCall 1 9 1) (refused 4)
+    ∷ spoilt 2 (raw 4 0 0 20 1) (postCall 1 9 1) (answer 0 0 0 0 0)
+    ∷ []
+
+abbrev index : ℕ → ℕ → ℕ → Sector
+index key at bucket = Held (indexEntry key at bucket)
+
+-- the strike just added is kept where its bucket is rewritten, the other strikes go but for the header's; copies keep their stamps, pairs
+-- have the call's; a parent with one blank takes no pair of two; as of a stamp before the new root the old one leads
+abbrev rewritten : List Line
+rewritten =
+    anew
+    ∷ ok (formatCall 8 4 3 4)
+    ∷ ok (postCall 1 1 1)
+    ∷ ok (postCall 2 2 2)
+    ∷ ok (postCall 3 3 3)
+    ∷ ok (strikeCall 2 4)
+    ∷ holds 3 (Held (strikeEntry 0 0) ∷ Held (postEntry 1 1 1) ∷ Blank ∷ Blank ∷ [])
+    ∷ holds 4 (Held (strikeEntry 2 4) ∷ Held (postEntry 3 3 3) ∷ Blank ∷ Blank ∷ [])
+    ∷ holds 1 (index 0 0 2 ∷ index 0 4 3 ∷ index 2 4 4 ∷ Blank ∷ [])
+    ∷ ok (postCall 4 5 5)
+    ∷ ok (strikeCall 3 6)
+    ∷ ok (postCall 5 7 7)
+    ∷ holds 5 (Held (strikeEntry 2 4) ∷ Held (postEntry 4 5 5) ∷ Blank ∷ Blank ∷ [])
+    ∷ holds 6 (Held (postEntry 5 7 7) ∷ Blank ∷ Blank ∷ Blank ∷ [])
+    ∷ holds 1 (index 0 0 2 ∷ index 0 4 3 ∷ index 2 4 4 ∷ Blank ∷ [])
+    ∷ holds 7 (index 0 4 3 ∷ index 2 7 5 ∷ index 5 7 6 ∷ Blank ∷ [])
+    ∷ logs (Held (rootEntry 0 1) ∷ Held (rootEntry 7 7) ∷ Blank ∷ [])
+    ∷ used 7
+    ∷ says (lookCall 2 3) (answer 0 2 2 2 2)
+    ∷ says (lookCall 2 7) (answer 0 2 0 0 2)
+    ∷ says (lookCall 3 5) (answer 0 3 3 3 2)
+    ∷ says (nextCall 1 6) (answer 0 4 5 5 0)
+    ∷ says (nextCall 4 7) (answer 0 5 7 7 0)
+    ∷ []
+
+-- fresh buckets are numbered past a byte that nobody can reach: one in the last sector of bucket 6, 1 + 8 + 4 * 5 + 3
+abbrev passedOver : List Line
+passedOver =
+    anew
+    ∷ ok (formatCall 8 4 3 4)
+    ∷ writes 32 (raw 0 0 0 0 1)
+    ∷ used 6
+    ∷ ok (postCall 1 1 1)
+    ∷ ok (postCall 1 2 2)
+    ∷ ok (postCall 1 3 3)
+    ∷ ok (postCall 1 4 4)
+    ∷ holds 7 (Held (strikeEntry 0 0) ∷ Held (postEntry 1 4 4) ∷ Blank ∷ Blank ∷ [])
+    ∷ used 7
+    ∷ []
+
+-- "field not 4, 5 or 6 digits, or time too long": a lap of 1:12.40 is not 12.40
+abbrev nothing : List ℕ
+nothing = 0 ∷ 0 ∷ 0 ∷ 0 ∷ 0 ∷ 0 ∷ []
+
+abbrev fields : List Line
+fields = shows 0 3 7 nothing ∷ shows 0 7 7 nothing ∷ shows 5 4 0 nothing ∷ shows 72400 4 7 nothing ∷ []
+
+abbrev pub pins : List Line
+pins = defaults ++ (limits ++ (two ++ (damage ++ (rewritten ++ (passedOver ++ fields)))))
+
+pub pins-pass : T (passes [] pins)
+unfolding rules
+pins-pass = tt
