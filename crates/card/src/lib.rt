@@ -11,7 +11,7 @@ ghost use Rattle.rules.specs.Panel.{panel};
 ghost use Rattle.rules.specs.Format.{format};
 ghost use Rattle.rules.specs.Write.{planAnswer, planCard, post, strike};
 ghost use Rattle.writer.specs.Rows.{puts};
-ghost use Rattle.scroll.specs.Records.{rolled, given, tallyOf};
+ghost use Rattle.scroll.specs.Records.{recordsOf, tallyOf};
 
 #[no_mangle]
 pub extern "C" fn card_format(
@@ -59,8 +59,8 @@ pub extern "C" fn card_next(card: &[u8], bib: u32, at: u32) -> Answer
 
 #[no_mangle]
 pub extern "C" fn card_records(card: &[u8], bib: u32, at: u32, out: &mut [u8]) -> Tally
-    ensures { λ r. ⌜ r ≡ tallyOf (given (rolled (now (card .entry)) at (length (now (out .entry)) / 16) bib)) ⌝ }
-    ensures { λ _. ⌜ now (out .exit) ≡ puts (now (out .entry)) 0 (given (rolled (now (card .entry)) at (length (now (out .entry)) / 16) bib) .records) ⌝ }
+    ensures { λ r. ⌜ r ≡ tallyOf (recordsOf (now (card .entry)) at (length (now (out .entry)) / 16) bib) ⌝ }
+    ensures { λ _. ⌜ now (out .exit) ≡ puts (now (out .entry)) 0 (recordsOf (now (card .entry)) at (length (now (out .entry)) / 16) bib .records) ⌝ }
 {
     scroll::records(card, bib, at, out)
 }

@@ -1,7 +1,9 @@
--- The checker computes both lists from the rules.
+-- The checker computes each list from the rules.
 use Rattle.rules.proofs.Opened.{rules}
+use Rattle.scroll.specs.Records.{rollOn, rolled, given, recordsIn, recordsOf}
 use Rattle.cases.specs.Growing.{GrowsAsSaid}
 use Rattle.cases.specs.Session.{SessionAsSaid}
+use Rattle.cases.specs.Rolls.{RollsAsSaid}
 
 pub growing-passes : GrowsAsSaid
 unfolding rules
@@ -10,3 +12,7 @@ growing-passes = tt
 pub session-passes : SessionAsSaid
 unfolding rules
 session-passes = tt
+
+pub session-rolls : RollsAsSaid
+unfolding rules rolled rollOn given recordsIn recordsOf
+session-rolls = tt

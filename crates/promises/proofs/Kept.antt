@@ -5,6 +5,7 @@ use Rattle.promises.proofs.Alike.{cards-answer-alike}
 use Rattle.promises.proofs.Overwritten.{nothing-is-overwritten}
 use Rattle.promises.proofs.Taken.{post-is-taken, strike-is-taken}
 use Rattle.promises.proofs.Settled.{calls-are-settled, panel-is-settled, refused-means-unchanged, reads-change-nothing}
+use Rattle.promises.proofs.Scrolled.{records-are-settled, scroll-is-settled, scroll-says-again}
 
 pub all-kept : Promises
 all-kept =
@@ -20,4 +21,7 @@ all-kept =
       panel-is-settled = panel-is-settled;
       refused-means-unchanged = refused-means-unchanged;
       reads-change-nothing = reads-change-nothing;
+      records-are-settled = records-are-settled;
+      scroll-is-settled = scroll-is-settled;
+      scroll-says-again = scroll-says-again;
     }

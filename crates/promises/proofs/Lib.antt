@@ -6,4 +6,5 @@ pub mod Alike
 pub mod Overwritten
 pub mod Taken
 pub mod Settled
+pub mod Scrolled
 pub mod Kept

@@ -2,10 +2,11 @@
 use mathlib.Core.Path.{_≡_}
 use mathlib.Core.Logic.{_⊎_}
 use mathlib.Core.Bool.{false}
-use Prim.Native.Nat.{ℕ, _≤_, _<_}
+use Prim.Native.Nat.{ℕ, _/_, _≤_, _<_}
 use mathlib.Core.List.{List, [], _∷_}
 use mathlib.Core.Option.{Option, none, some}
 use lib.ListN.{length, getD, replicate}
+use denote.Ref.{RefT}
 use Rattle.rules.specs.declared.Entry.{Entry}
 use Rattle.rules.specs.declared.Head.{Head}
 use Rattle.rules.specs.declared.Answer.{Answer}
@@ -19,6 +20,11 @@ use Rattle.rules.specs.Next.{next}
 use Rattle.rules.specs.Write.{latest}
 use Rattle.rules.specs.Panel.{panel}
 use Rattle.rules.specs.Calls.{Call, postCall, strikeCall, lookCall, nextCall, Done, called}
+use Rattle.writer.specs.Rows.{puts}
+use Rattle.scroll.specs.declared.Tally.{Tally}
+use Rattle.scroll.specs.declared.Scroll.{Scroll}
+use Rattle.scroll.specs.Records.{recordsOf, tallyOf}
+use Rattle.scroll.specs.Scroll.{after, stepOf}
 use Rattle.promises.specs.Calls.{Accepted, Formatted, Sized, AllSized, cardAfter, accepted, Above, needed, remaining}
 use Rattle.promises.specs.Reading.{upTo, standsAsOf}
 
@@ -133,6 +139,35 @@ RefusedMeansUnchanged =
 abbrev pub ReadsChangeNothing : Type 0
 ReadsChangeNothing = (card : List ℕ) (bib t : ℕ) → (called card (lookCall bib t) .card ≡ card) × (called card (nextCall bib t) .card ≡ card)
 
+-- an outcome of the records in a row: the tally, and the bytes of the lent buffer afterwards
+abbrev pub FitsRecords : List ℕ → ℕ → ℕ → List ℕ → Tally → List ℕ → Type 0
+FitsRecords card bib at out tally new =
+    let given = recordsOf card at (length out / 16) bib in (tally ≡ tallyOf given) × (new ≡ puts out 0 (given .records))
+
+-- 8. What is said of the records settles both; and refused, they leave the buffer as it was, with 0 beside the number.
+abbrev pub RecordsAreSettled : Type 0
+RecordsAreSettled =
+    (card : List ℕ) (bib at : ℕ) (out : List ℕ) (one two : Tally) (new other : List ℕ)
+    → FitsRecords card bib at out one new → FitsRecords card bib at out two other
+    → (one ≡ two) × (new ≡ other) × ((one .code ≡ 0 → ⊥) → (one .count ≡ 0) × (new ≡ out))
+
+-- what is said of a new scroll, and of a step: its answer and the scroll afterwards
+abbrev pub FitsNew : RefT (List ℕ) → ℕ → Scroll → Type 0
+FitsNew card at s = (s .card ≡ card) × (s .at ≡ at) × (s .last ≡ 0)
+
+abbrev pub FitsStep : Scroll → Answer → Scroll → Type 0
+FitsStep s a new = (a ≡ stepOf s) × (new ≡ after s a)
+
+-- 9. It settles them.
+abbrev pub ScrollIsSettled : Type 0
+ScrollIsSettled =
+    ((card : RefT (List ℕ)) (at : ℕ) (one two : Scroll) → FitsNew card at one → FitsNew card at two → one ≡ two)
+    × ((s : Scroll) (a b : Answer) (one two : Scroll) → FitsStep s a one → FitsStep s b two → (a ≡ b) × (one ≡ two))
+
+-- After the end, or a refusal, a scroll says the same again.
+abbrev pub ScrollSaysAgain : Type 0
+ScrollSaysAgain = (s : Scroll) → stepOf s .bib ≡ 0 → stepOf (after s (stepOf s)) ≡ stepOf s
+
 -- All that is promised. `promised` in src/ asks for a term of it, so that a promise without its proof fails the check.
 pub record Promises : Type 0 where
   pub look-tells-the-truth : LookTellsTheTruth
@@ -146,3 +181,6 @@ pub record Promises : Type 0 where
   pub panel-is-settled : PanelIsSettled
   pub refused-means-unchanged : RefusedMeansUnchanged
   pub reads-change-nothing : ReadsChangeNothing
+  pub records-are-settled : RecordsAreSettled
+  pub scroll-is-settled : ScrollIsSettled
+  pub scroll-says-again : ScrollSaysAgain

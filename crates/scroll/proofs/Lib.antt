@@ -1,3 +1,1 @@
 mod Rolls
-pub mod Ends
-pub mod Session

@@ -2,6 +2,7 @@
 use mathlib.Core.Path.{_≡_, refl, ap, sym, _∙_}
 use mathlib.Core.Bool.{Bool, true, false}
 use mathlib.Core.List.{List, [], _∷_}
+use mathlib.Core.Option.{none, some}
 use Prim.Native.Nat.{ℕ, zero, suc, _+_, _-_, _<_, _≤_}
 use native.Mathlib.Omega.{arith}
 use borrow.Author.Tests.{eq-eqb, ne-eqb}
@@ -9,11 +10,13 @@ use lib.Dec.{eqb}
 use lib.ListN.{length}
 use Rattle.rules.specs.declared.Answer.{Answer}
 use Rattle.rules.specs.declared.Entry.{Entry}
+use Rattle.rules.specs.declared.Head.{Head}
+use Rattle.rules.specs.Layout.{headOf}
 use Rattle.rules.specs.Next.{next}
 use Rattle.rules.specs.Sector.{put, encode}
 use Rattle.scroll.specs.declared.Tally.{Tally}
 use Rattle.writer.specs.Rows.{puts}
-use Rattle.scroll.specs.Records.{Roll, roll, recordOf, rollOn, rolled, given, tallyOf}
+use Rattle.scroll.specs.Records.{Roll, roll, recordOf, rollOn, rolled, given, recordsIn, recordsOf, tallyOf}
 
 -- the tally of a roll that comes after n records
 abbrev pub tallyAfter : ℕ → Roll → Tally
@@ -84,6 +87,15 @@ given-all r z = rw (eq-eqb _ _ z)
 given-none : (r : Roll) → (r .code ≡ 0 → ⊥) → given r ≡ roll (r .code) []
 unfolding given
 given-none r z = rw (ne-eqb _ _ z)
+
+-- the head is asked first
+pub records-broken : (card : List ℕ) (at c bib : ℕ) → headOf card ≡ none → recordsOf card at c bib ≡ roll 1 []
+unfolding recordsOf recordsIn
+records-broken card at c bib e = rw e
+
+pub records-sound : (card : List ℕ) (at c bib : ℕ) (h : Head) → headOf card ≡ some h → recordsOf card at c bib ≡ given (rolled card at c bib)
+unfolding recordsOf recordsIn
+records-sound card at c bib h e = rw e
 
 -- what is given of a roll that was counted: all where it met no refusal, else nothing
 module _ (card : List ℕ) (at c bib : ℕ) (out : List ℕ) (t : Tally) (is : t ≡ tallyOf (rolled card at c bib)) where

@@ -1,10 +1,13 @@
 -- The records that a scroll gives in a row, and how they lie in a lent buffer.
 use Prim.Native.Nat.{ℕ, zero, suc}
 use mathlib.Core.List.{List, [], _∷_}
+use mathlib.Core.Option.{Option, none, some}
 use lib.Dec.{eqb}
 use lib.ListN.{length}
 use Rattle.rules.specs.declared.Answer.{Answer}
 use Rattle.rules.specs.declared.Entry.{Entry}
+use Rattle.rules.specs.declared.Head.{Head}
+use Rattle.rules.specs.Layout.{headOf}
 use Rattle.rules.specs.Next.{next}
 use Rattle.rules.specs.Plain.{if}
 use Rattle.rules.specs.Sector.{postEntry}
@@ -32,6 +35,14 @@ rolled card at (suc places) bib = rollOn (next card bib at) (rolled card at plac
 -- "A refusal gives zeros beside its number"
 unfoldable pub given : Roll → Roll
 given r = if (eqb (r .code) 0) r (roll (r .code) [])
+
+-- what `records` gives: 1 ahead of all else, also where no record fits
+unfoldable pub recordsIn : List ℕ → ℕ → ℕ → ℕ → Option Head → Roll
+recordsIn card at places bib none = roll 1 []
+recordsIn card at places bib (some h) = given (rolled card at places bib)
+
+unfoldable pub recordsOf : List ℕ → ℕ → ℕ → ℕ → Roll
+recordsOf card at places bib = recordsIn card at places bib (headOf card)
 
 abbrev pub tallyOf : Roll → Tally
 tallyOf r = record { code = r .code; count = length (r .records) }

@@ -5,11 +5,12 @@ ghost use lib.ListN.{length};
 ghost use Rattle.rules.specs.Next.{next};
 ghost use Rattle.scroll.specs.Scroll.{lastAfter, after};
 ghost use Rattle.writer.specs.Rows.{puts};
-ghost use Rattle.scroll.specs.Records.{rolled, given, tallyOf};
+ghost use Rattle.scroll.specs.Records.{rolled, given, recordsOf, tallyOf};
 
 mod roll;
 
 use rules::Answer;
+use walk::Layout;
 
 // "it holds the card it reads and the bib last given"
 pub struct Scroll<'a> {
@@ -53,7 +54,7 @@ pub struct Tally {
 
 // The records above a bib as of a stamp, laid down as post sectors, as many as fit. They are counted first: a refusal met on
 // the way leaves the buffer as it was.
-pub fn records(card: &[u8], bib: u32, at: u32, out: &mut [u8]) -> Tally
+fn page(card: &[u8], bib: u32, at: u32, out: &mut [u8]) -> Tally
     ensures { λ r. ⌜ r ≡ tallyOf (given (rolled (now (card .entry)) at (length (now (out .entry)) / 16) bib)) ⌝ }
     ensures { λ _. ⌜ now (out .exit) ≡ puts (now (out .entry)) 0 (given (rolled (now (card .entry)) at (length (now (out .entry)) / 16) bib) .records) ⌝ }
 {
@@ -67,4 +68,16 @@ pub fn records(card: &[u8], bib: u32, at: u32, out: &mut [u8]) -> Tally
         code: t.code,
         count: 0,
     }
+}
+
+// The same, but the head is asked first: a buffer without room for a record asks for none, and would not see that it is broken.
+pub fn records(card: &[u8], bib: u32, at: u32, out: &mut [u8]) -> Tally
+    ensures { λ r. ⌜ r ≡ tallyOf (recordsOf (now (card .entry)) at (length (now (out .entry)) / 16) bib) ⌝ }
+    ensures { λ _. ⌜ now (out .exit) ≡ puts (now (out .entry)) 0 (recordsOf (now (card .entry)) at (length (now (out .entry)) / 16) bib .records) ⌝ }
+{
+    let layout = walk::head::read_head(card);
+    let Layout::Sound(_) = layout else {
+        return Tally { code: 1, count: 0 };
+    };
+    page(card, bib, at, out)
 }

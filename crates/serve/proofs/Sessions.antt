@@ -12,7 +12,7 @@ use Rattle.rules.specs.Calls.{Done}
 use Rattle.rules.specs.Bench.{answerLine, startWith, lines, benchDone, benchLine, benchFrom, bench}
 use Rattle.laws.proofs.Tools.{bool-cases, le-or-lt}
 use Rattle.line.proofs.Lengths.{first-bytes}
-use Rattle.serve.specs.Feeds.{fedTo, keep, byteOn, heard, lastHeard, told}
+use Rattle.serve.specs.Feeds.{fedTo, keep, byteOn, heard, lastHeard, told, ToldIsTheBench}
 
 -- the lines of what follows the line that is being read
 onward : List ℕ → List (List ℕ) → List (List ℕ)
@@ -98,6 +98,6 @@ told-from card line (b ∷ bs) =
     (λ (t : eqb b 10 ≡ false). told-other card line bs b t more)
     (bool-cases (eqb b 10))
 
-pub told-bench : (input : List ℕ) → told [] [] input ≡ bench input
+pub told-bench : ToldIsTheBench
 unfolding bench
 told-bench input = told-from [] [] input ∙ ap (benchFrom []) (onward-none (lines input))

@@ -5,7 +5,7 @@ use mathlib.Core.List.{List, [], _∷_, _++_}
 use lib.ListN.{length, take}
 use lib.Dec.{eqb}
 use Rattle.rules.specs.Plain.{if}
-use Rattle.rules.specs.Bench.{benchLine, answerLine}
+use Rattle.rules.specs.Bench.{benchLine, answerLine, bench}
 use Rattle.serve.specs.declared.State.{State}
 use Rattle.session.specs.Cards.{Room}
 
@@ -45,3 +45,7 @@ lastHeard card (x ∷ kept) = answerLine ((benchLine card (x ∷ kept)) .answer)
 unfoldable pub told : List ℕ → List ℕ → List ℕ → List ℕ
 told card kept [] = lastHeard card kept
 told card kept (b ∷ bs) = let one = byteOn card kept b in heard card kept b ++ told (one .card) (one .kept) bs
+
+-- the answers byte by byte are the rules' answers to the whole input
+abbrev pub ToldIsTheBench : Type 0
+ToldIsTheBench = (input : List ℕ) → told [] [] input ≡ bench input

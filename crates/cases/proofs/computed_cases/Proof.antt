@@ -1,10 +1,10 @@
--- `cases::computed_cases` meets its contract: both lists come out as document 01 has them.
-use Rattle.cases.proofs.Computed.{growing-passes, session-passes}
+-- `cases::computed_cases` meets its contract: each list comes out as document 01 has it.
+use Rattle.cases.proofs.Computed.{growing-passes, session-passes, session-rolls}
 use Rattle.cases.proofs.computed_cases.Statement.{statement}
 use Rattle.cases.proofs.computed_cases.Tie as tie
 
 returns : tie.Need-returns
-returns c = (growing-passes, session-passes)
+returns c = (growing-passes, session-passes, session-rolls)
 
 pub computed-cases-spec : {M : Type 1} → statement M
 computed-cases-spec = tie.close (tie.spec returns)

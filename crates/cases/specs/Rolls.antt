@@ -7,8 +7,7 @@ use Rattle.rules.specs.Bench.{benchCall}
 use Rattle.rules.specs.Calls.{Call, formatCall, postCall, strikeCall}
 use Rattle.rules.proofs.Lines.{same}
 use Rattle.rules.specs.Plain.{_&_}
-use Rattle.rules.proofs.Opened.{rules}
-use Rattle.scroll.specs.Records.{Roll, rollOn, rolled}
+use Rattle.scroll.specs.Records.{Roll, rolled, recordsOf}
 
 abbrev pub cardAfter : List ℕ → List Call → List ℕ
 cardAfter card [] = card
@@ -25,10 +24,10 @@ numbersOf (e ∷ es) = e .key ∷ e .stamp ∷ e .value ∷ numbersOf es
 abbrev pub numbers : Roll → List ℕ
 numbers r = r .code ∷ numbersOf (r .records)
 
-pub session-rolls : T
+abbrev pub RollsAsSaid : Type 0
+RollsAsSaid = T
     (same (numbers (rolled (cardAfter [] calls) 49 9 0)) (0 ∷ 3 ∷ 20 ∷ 58900 ∷ 5 ∷ 40 ∷ 60000 ∷ 8 ∷ 10 ∷ 61230 ∷ 11 ∷ 30 ∷ 59990 ∷ [])
     & same (numbers (rolled (cardAfter [] calls) 50 9 3)) (0 ∷ 5 ∷ 40 ∷ 60000 ∷ 11 ∷ 30 ∷ 59990 ∷ [])
     & same (numbers (rolled (cardAfter [] calls) 50 2 0)) (0 ∷ 3 ∷ 20 ∷ 58900 ∷ 5 ∷ 40 ∷ 60000 ∷ [])
-    & same (numbers (rolled [] 50 2 0)) (1 ∷ []))
-unfolding rules rolled rollOn
-session-rolls = tt
+    & same (numbers (recordsOf (cardAfter [] calls) 50 0 0)) (0 ∷ [])
+    & same (numbers (recordsOf [] 50 0 0)) (1 ∷ []))
