@@ -6,5 +6,4 @@ ghost use Rattle.cases.specs.Rolls.{RollsAsSaid};
 // Asks the prover for each list.
 pub fn computed_cases()
     ensures { λ _. ⌜ GrowsAsSaid × SessionAsSaid × RollsAsSaid ⌝ }
-{
-}
+{}

@@ -38,7 +38,8 @@ unfolding pieceAt lastOf
 returns c =
     let l = c .before .before .before .before .before in
     let d = sym (c .before .before .before .before .digit-at .ensures) ∙ c .before .before .before .if1 .taken in
-    (run-over (now (l .before .before .args .line)) (l .loop .value) (l .loop .i) _ d (l .loop .inv .2) (rw (c .before .wide .ensures) at (c .if2 .taken)), search needs)
+    let past = rw (c .before .wide .ensures) at (c .if2 .taken) in
+    (run-over (now (l .before .before .args .line)) (l .loop .value) (l .loop .i) _ d (l .loop .inv .2) (omega arith), search needs)
 
 add-i : tie.Need-add-i Inv-loop μ-loop
 add-i c =

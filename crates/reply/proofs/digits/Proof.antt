@@ -23,15 +23,15 @@ loop-holds c = (search needs, omega arith, search needs, rw (drop-of-length-le (
 sub-k : tie.Need-sub-k Inv-loop μ-loop
 sub-k c =
     let l = c .before .loop in
-    let p = places (l .left) (l .k) (c .loop-test .taken) (l .inv .1) in
+    let p = places (l .left) (l .k) (omega arith) (l .inv .1) in
     omega arith
 
 loop-again : tie.Need-loop-again Inv-loop μ-loop
 loop-again c =
     let l = c .before .loop in
-    let p = places (l .left) (l .k) (c .loop-test .taken) (l .inv .1) in
+    let p = places (l .left) (l .k) (omega arith) (l .inv .1) in
     let back : l .k - 1 + 1 ≡ l .k = omega (arith, p .0) in
-    (search needs, rw back (p .1), search needs, digit-stored (l .room) (l .left) (l .k) _ (omega (arith, l .inv, c .before .before .pre)) (l .inv .3) (c .loop-test .taken) (p .0))
+    (search needs, rw back (p .1), search needs, digit-stored (l .room) (l .left) (l .k) _ (omega (arith, l .inv, c .before .before .pre)) (l .inv .3) (omega arith) (p .0))
 
 returns : tie.Need-returns Inv-loop μ-loop
 returns c =
