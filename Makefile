@@ -7,21 +7,16 @@ run:
 	@rt check bench >/dev/null
 	@target/bin/bench < crates/bench/stdin
 
-# The gate. Its last line is rt's own count, printed again once all else has passed.
+# The gate. Its last line is rt's own count.
 test:
-	@log=$$(mktemp); trap 'rm -f "$$log"' EXIT; \
-	rt ci 2>&1 | tee "$$log"; \
-	rt fmt --check; \
-	rt staticlib card >/dev/null; \
-	cd rust && cargo test --release --offline --quiet 2>&1; \
-	tail -n 1 "$$log"
+	@scripts/gate
 
 # The library against the Rust implementation, in one run.
 bench:
-	@rt staticlib card >/dev/null
+	@scripts/quietly rt staticlib card
 	@cd rust && cargo bench --offline --bench speed && cargo bench --offline --bench stack
 
 # Easton's experiment on the library.
 easton:
-	@rt staticlib card >/dev/null
+	@scripts/quietly rt staticlib card
 	@cd rust && cargo run --release --offline --example easton
