@@ -1,0 +1,64 @@
+//! The card that docs/FORMAT.md shows: its bytes were written down by hand from the rules. The calls it names
+//! leave just these bytes, and its questions have the answers it gives.
+
+use card::{Look, Record, Refusal, Shape};
+
+const PAGE: &str = include_str!("../../docs/FORMAT.md");
+
+const SEVEN: Record = Record { bib: 7, at: 100, time: 59_990 };
+const NINE: Record = Record { bib: 9, at: 130, time: 58_120 };
+const TWELVE: Record = Record { bib: 12, at: 110, time: 61_230 };
+
+/// A line of the dump: its place and its sixteen bytes. Other lines of the page have no such words.
+fn sector(line: &str) -> Option<(usize, Vec<u8>)> {
+    let mut words = line.split_whitespace();
+    let place = usize::from_str_radix(words.next().filter(|word| word.len() == 4)?, 16).ok()?;
+    let bytes: Option<Vec<u8>> = words.take(16).map(|word| u8::from_str_radix(word, 16).ok()).collect();
+    bytes.filter(|bytes| bytes.len() == 16).map(|bytes| (place, bytes))
+}
+
+fn dumped() -> Vec<u8> {
+    let mut card = Vec::new();
+    for (place, bytes) in PAGE.lines().filter_map(sector) {
+        assert_eq!(place, card.len(), "each line begins where the one before it ends");
+        card.extend(bytes);
+    }
+    card
+}
+
+#[test]
+fn the_calls_leave_these_bytes() {
+    let shape = Shape::new(4, 4).td(3).ti(4);
+    let mut card = vec![0; shape.bytes().unwrap()];
+    card::format(&mut card, shape).unwrap();
+    card::post(&mut card, 7, 100, 59_990).unwrap();
+    card::post(&mut card, 12, 110, 61_230).unwrap();
+    card::strike(&mut card, 7, 120).unwrap();
+    card::post(&mut card, 9, 130, 58_120).unwrap();
+    assert_eq!(card, dumped());
+}
+
+#[test]
+fn looks_are_answered_as_the_page_says() {
+    let card = dumped();
+    for (bib, at, record) in [(7, 115, Some(SEVEN)), (7, 120, None), (7, 130, None), (12, 130, Some(TWELVE))]
+    {
+        assert_eq!(card::look(&card, bib, at), Ok(Look { record, reads: 2 }), "{bib} as of {at}");
+    }
+}
+
+#[test]
+fn nexts_and_the_post_are_answered_as_the_page_says() {
+    let mut card = dumped();
+    let asked = [
+        (0, 115, Some(SEVEN)),
+        (0, 125, Some(TWELVE)),
+        (0, 130, Some(NINE)),
+        (9, 130, Some(TWELVE)),
+        (12, 130, None),
+    ];
+    for (bib, at, record) in asked {
+        assert_eq!(card::next(&card, bib, at), Ok(record), "above {bib} as of {at}");
+    }
+    assert_eq!(card::post(&mut card, 3, 130, 1), Err(Refusal::Stamp));
+}
