@@ -1,12 +1,48 @@
 /* Race results on a write-once card: the calls of libcard.a.
  *
- * A card is `len` bytes at `card`. Its layout, its rules and the answer numbers are those of
- * document 01. Every call takes every card and every number: bytes that are no card are refused,
- * not trusted. A call reads and writes only the bytes lent to it and keeps nothing between calls.
- * `card` is not null, and with it `len` bytes can be read (and written, where it is not const).
+ * A card is `len` bytes at `card`. It keeps, for each bib number, every time that was posted and
+ * every strike, each under a clock stamp, and never changes a byte that it has written. So what
+ * stands for a bib can be asked as of any past stamp. docs/FORMAT.md says what each byte means.
+ *
+ * Words used below. A card has a head, a log of its roots and a number of buckets; a bucket has a
+ * number of sectors of 16 bytes, each blank or one entry. A data bucket holds posts and strikes,
+ * an index bucket leads to other buckets. The path of a call is the buckets it reads, from the
+ * root to a data bucket. Damage is bytes that break the format.
+ *
+ * Every call takes every card and every number: bytes that are no card are refused, not trusted.
+ * A call reads and writes only the bytes lent to it, allocates nothing and keeps nothing between
+ * calls. `card` is not null, and with it `len` bytes can be read (and written, where it is not
+ * const).
  *
  * A refusal has its number in `code` and zeros beside it, and the card is unchanged. Where several
  * numbers could be given, the first in the order listed at the call is. Accepted is code 0.
+ *
+ * Threads. Any number of threads may ask (card_look, card_next, card_records) at the same time.
+ * card_format, card_post and card_strike need the card alone: no other call on it may run
+ * meanwhile, and the caller sees to that. Different cards have nothing to do with each other.
+ *
+ * Stack. On a card that these calls have made, each call takes at most CARD_STACK_OURS bytes of
+ * stack, and on any bytes at all at most CARD_STACK_ANY: a card of another's making may have paths
+ * of thousands of buckets. Both are measured, not proved; docs/PERFORMANCE.md has each call's own.
+ *
+ * Machine. The archive is for x86-64 with the System V calling convention, in ELF objects: Linux
+ * and the BSDs, not Windows or macOS. It asks for memcpy and memset and nothing else.
+ *
+ * Blank is 0x00. A memory that erases to 0xFF has to be lent inverted, each byte as its complement.
+ *
+ * Power lost inside card_format, card_post or card_strike is not provided for. The card may then be
+ * damaged, or lack the call's entry, and where a full bucket was being divided, records of it may
+ * be missing as of the call's stamp and later. What there is nevertheless: no byte written before
+ * the call is touched; sectors are written one at a time, those of fresh buckets first, then the
+ * entries that lead to them, the lower level before the upper, and an entry of the root log last of
+ * all; and the sixteen bytes of a sector are stored one after the other, the kind first. So until
+ * the first entry that leads to a fresh bucket is there, every question is answered as before the
+ * call. That is the order in the source; compiler, cache and memory keep it only where they are made
+ * to. A caller who needs more makes the call on a copy and brings the changed sectors over in that
+ * order.
+ *
+ * The last stamp. A post or strike needs a stamp above every stamp on the card, so one stamped
+ * 4294967295 closes the card: it can be asked, but no more be written.
  */
 #ifndef CARD_H
 #define CARD_H
@@ -16,11 +52,86 @@
 
 #ifdef __cplusplus
 extern "C" {
+#ifdef __GNUC__
+/* A struct and a call may have one name, of which g++ -Wshadow warns. */
+#pragma GCC diagnostic push
+#pragma GCC diagnostic ignored "-Wshadow"
+#endif
 #endif
 
+/* The version of this header and of the archive that belongs to it. */
+#define CARD_VERSION_MAJOR 0
+#define CARD_VERSION_MINOR 1
+#define CARD_VERSION_PATCH 0
+#define CARD_VERSION "0.1.0"
+
+/* Limits of what card_format takes. TD and TI go up to the number of sectors. */
+#define CARD_BUCKETS_MIN 2
+#define CARD_BUCKETS_MAX 4096
+#define CARD_SECTORS_MIN 4
+#define CARD_SECTORS_MAX 32
+#define CARD_TD_MIN 2
+#define CARD_TI_MIN 4
+
+/* The bytes of a sector, and of a record that card_records lays down. */
+#define CARD_SECTOR_BYTES 16
+
+/* The length of a card of `buckets` buckets of `sectors` sectors, for numbers within the limits. */
+#define CARD_BYTES(buckets, sectors) \
+    ((size_t)CARD_SECTOR_BYTES * (1 + (size_t)(buckets) * ((size_t)(sectors) + 1)))
+
+/* The largest stamp: a question as of it is one as of now. */
+#define CARD_NOW UINT32_C(4294967295)
+
+/* Bytes of stack that suffice for any call: see Stack above. */
+#define CARD_STACK_OURS 32768
+#define CARD_STACK_ANY 524288
+
+/* The answer numbers. */
+enum card_code {
+    CARD_OK = 0,             /* accepted, found, none or the end */
+    CARD_LAYOUT = 1,         /* the head or the length is not that of a card */
+    CARD_NO_BIB = 2,         /* bib 0 */
+    CARD_STAMP = 3,          /* the stamp is not above every stamp of the card's buckets */
+    CARD_DAMAGE = 4,         /* damage met on the root log or on the path */
+    CARD_NOTHING_STANDS = 5, /* a strike where nothing stands */
+    CARD_FULL = 6,           /* more fresh buckets needed than remain, or no blank in the root log */
+    CARD_PANEL = 7,          /* no such field, or the time is too long for it */
+    CARD_SHAPE = 8,          /* a limit of the shape broken, or the length not the shape's */
+    CARD_NOT_BLANK = 9       /* a byte of the card to be formatted is nonzero */
+};
+
+/* What an answer number means, in words. */
+static inline const char *card_text(uint32_t code) {
+    switch (code) {
+    case CARD_OK:
+        return "accepted";
+    case CARD_LAYOUT:
+        return "the card's head or length breaks the layout";
+    case CARD_NO_BIB:
+        return "bib 0 is no bib";
+    case CARD_STAMP:
+        return "the stamp is not above the largest on the card";
+    case CARD_DAMAGE:
+        return "the card is damaged on the log or path";
+    case CARD_NOTHING_STANDS:
+        return "nothing stands for this bib";
+    case CARD_FULL:
+        return "the card is full";
+    case CARD_PANEL:
+        return "the time does not fit the field";
+    case CARD_SHAPE:
+        return "the shape breaks a limit or is not of the card's length";
+    case CARD_NOT_BLANK:
+        return "the card is not blank";
+    default:
+        return "no answer of the card";
+    }
+}
+
 /* The answer of a call on a card. */
-struct Answer {
-    uint32_t code;  /* 0, or the number of a refusal */
+struct card_answer {
+    uint32_t code;  /* an enum card_code */
     uint32_t bib;   /* the record's bib */
     uint32_t at;    /* its stamp; 0 is no record */
     uint32_t time;  /* its time in thousandths of a second */
@@ -28,70 +139,76 @@ struct Answer {
 };
 
 /* The answer of card_records. */
-struct Tally {
-    uint32_t code; /* 0, or the number of a refusal */
+struct card_tally {
+    uint32_t code; /* an enum card_code */
     size_t count;  /* records laid down */
 };
 
-/* The answer of the panel routine. */
-struct Digits {
-    uint32_t code;     /* 0 or 7 */
-    uint8_t places[6]; /* highest digit first; those past the field are 0 */
+/* The answer of card_digits. */
+struct card_digits {
+    uint32_t code;     /* CARD_OK or CARD_PANEL */
+    uint8_t places[6]; /* the digits 0 to 9, highest first; places past the field are 0 */
 };
 
-/* Makes a blank card an empty one of `buckets` buckets (2 to 4096) of `sectors` sectors (4 to 32).
- * A full data bucket is rewritten to one bucket if fewer than `td` entries are left (2 to
- * `sectors`; 0 means three quarters of them), an index bucket if fewer than `ti` are (4 to
- * `sectors`; 0 means `sectors` less an eighth of them).
- * Refused: 8, a limit broken or `len` not 16 * (1 + buckets * (sectors + 1)); 9, a byte of the
- * card nonzero.
+/* Makes a blank card an empty one of `buckets` buckets of `sectors` sectors.
+ * `td` and `ti` decide what becomes of a full bucket: its entries are thinned to the last of each
+ * key and go to one fresh bucket where fewer than `td` (a data bucket) or `ti` (an index bucket)
+ * are left, else to two. td 0 means three quarters of `sectors` rounded down, sectors * 3 / 4;
+ * ti 0 means `sectors` less an eighth of them rounded down, sectors - sectors / 8.
+ * Refused: 8, a limit broken or `len` not CARD_BYTES(buckets, sectors); 9, a byte of the card
+ * nonzero.
  * Leaves the head, one root entry, one index bucket and one data bucket with one entry each; all
  * other bytes stay zero. The answer is all zeros. */
-struct Answer card_format(uint8_t *card, size_t len, uint32_t buckets, uint32_t sectors, uint32_t td,
-                          uint32_t ti);
+struct card_answer card_format(uint8_t *card, size_t len, uint32_t buckets, uint32_t sectors,
+                               uint32_t td, uint32_t ti);
 
 /* Writes a time for `bib`: a first one or a correction.
  * Refused: 1, head or length breaks the layout; 2, bib 0; 3, `at` not above the largest stamp of
  * the card's buckets; 4, damage met on the log or path; 6, more fresh buckets needed than remain,
  * or no blank log sector for a new root.
- * Leaves the entry in the first blank sector of the bib's data bucket, or new buckets and the
+ * Leaves the entry in the first blank sector of the bib's data bucket, or fresh buckets and the
  * entries leading to them where that bucket was full. Only blank sectors are written. The answer
  * is all zeros. */
-struct Answer card_post(uint8_t *card, size_t len, uint32_t bib, uint32_t at, uint32_t time);
+struct card_answer card_post(uint8_t *card, size_t len, uint32_t bib, uint32_t at, uint32_t time);
 
 /* Erases what stands for `bib`, for questions as of `at` and later.
  * Refused: 1, 2, 3, 4 as card_post; 5, nothing stands; 6 as card_post.
  * Leaves what card_post would, with a strike in the place of the post. The answer is all zeros. */
-struct Answer card_strike(uint8_t *card, size_t len, uint32_t bib, uint32_t at);
+struct card_answer card_strike(uint8_t *card, size_t len, uint32_t bib, uint32_t at);
 
 /* What stands for `bib` as of stamp `at`.
  * Found: bib, stamp and time of the record, and the number of buckets read. None: bib, stamp 0,
  * time 0, and the number of buckets read.
  * Refused: 1, head or length breaks the layout; 2, bib 0; 4, damage met on the log or path.
  * Leaves the card as it was. */
-struct Answer card_look(const uint8_t *card, size_t len, uint32_t bib, uint32_t at);
+struct card_answer card_look(const uint8_t *card, size_t len, uint32_t bib, uint32_t at);
 
 /* The record of the smallest bib above `bib` that stands as of stamp `at`; `bib` may be 0.
  * Found: bib, stamp and time of the record, reads 0. The end: all zeros.
  * Refused: 1, head or length breaks the layout; 4, damage met on the log or path.
  * Leaves the card as it was. */
-struct Answer card_next(const uint8_t *card, size_t len, uint32_t bib, uint32_t at);
+struct card_answer card_next(const uint8_t *card, size_t len, uint32_t bib, uint32_t at);
 
-/* The records that card_next gives one after the other above `bib`, laid down at `out` as post sectors
- * of 16 bytes, as many as there are and as fit whole into its `room` bytes. Byte 0 is 1, bytes 1 to 3
- * are 0, and bib, stamp and time follow, each of 4 bytes, low first. The bytes behind the last record
- * stay as they were. `out` is not null, its bytes can be read and written, and none of them is the card's.
- * Refused as card_next is, where a refusal is met before `out` is full; then no byte of `out` is written.
+/* The records that card_next gives one after the other above `bib`, laid down at `out` as post
+ * sectors of 16 bytes, as many as there are and as fit whole into its `room` bytes. Byte 0 is 1,
+ * bytes 1 to 3 are 0, and bib, stamp and time follow, each of 4 bytes, low first. The bytes behind
+ * the last record stay as they were. `out` is not null, its bytes can be read and written, and none
+ * of them is the card's.
+ * Refused as card_next is, where a refusal is met before `out` is full; then no byte of `out` is
+ * written.
  * Leaves the card as it was. */
-struct Tally card_records(const uint8_t *card, size_t len, uint32_t bib, uint32_t at, uint8_t *out,
-                          size_t room);
+struct card_tally card_records(const uint8_t *card, size_t len, uint32_t bib, uint32_t at,
+                               uint8_t *out, size_t room);
 
 /* The digits of a time in thousandths on a panel field of 4 (seconds, hundredths), 5 (a minute
- * digit before them) or 6 (two) places. The thousandths digit is dropped.
+ * digit before them) or 6 (two) places. The thousandths digit is dropped, leading zeros are shown.
  * Refused: 7, field not 4, 5 or 6, or the time too long for it: above 59.99, 9:59.99, 99:59.99. */
-struct Digits card_digits(uint32_t time, uint32_t field);
+struct card_digits card_digits(uint32_t time, uint32_t field);
 
 #ifdef __cplusplus
+#ifdef __GNUC__
+#pragma GCC diagnostic pop
+#endif
 }
 #endif
 

@@ -1,0 +1,120 @@
+/* What include/card.h says, held to the library and to words written here a second time. It compiles as C and as C++. */
+#include "card.h"
+
+#include <stdio.h>
+#include <stdlib.h>
+#include <string.h>
+
+static int wrong = 0;
+
+#define CHECK(fact) check(fact, #fact)
+
+static void check(int holds, const char *fact) {
+    if (!holds) {
+        printf("not so: %s\n", fact);
+        wrong = 1;
+    }
+}
+
+static void layout_of_the_structs(void) {
+    CHECK(sizeof(struct card_answer) == 20);
+    CHECK(offsetof(struct card_answer, bib) == 4 && offsetof(struct card_answer, at) == 8);
+    CHECK(offsetof(struct card_answer, time) == 12 && offsetof(struct card_answer, reads) == 16);
+    CHECK(sizeof(struct card_tally) == 16 && offsetof(struct card_tally, count) == 8);
+    CHECK(sizeof(struct card_digits) == 12 && offsetof(struct card_digits, places) == 4);
+}
+
+/* The answer number of a format of a blank card that is as long as CARD_BYTES says. */
+static uint32_t formatted(uint32_t buckets, uint32_t sectors, uint32_t td, uint32_t ti) {
+    size_t len = CARD_BYTES(buckets, sectors);
+    uint8_t *card = (uint8_t *)calloc(len, 1);
+    uint32_t code;
+    if (card == NULL)
+        return CARD_SHAPE;
+    code = card_format(card, len, buckets, sectors, td, ti).code;
+    free(card);
+    return code;
+}
+
+static void limits(void) {
+    CHECK(formatted(CARD_BUCKETS_MIN, CARD_SECTORS_MIN, CARD_TD_MIN, CARD_TI_MIN) == CARD_OK);
+    CHECK(formatted(CARD_BUCKETS_MAX, CARD_SECTORS_MAX, CARD_SECTORS_MAX, CARD_SECTORS_MAX) == CARD_OK);
+    CHECK(formatted(CARD_BUCKETS_MIN - 1, CARD_SECTORS_MIN, 0, 0) == CARD_SHAPE);
+    CHECK(formatted(CARD_BUCKETS_MAX + 1, CARD_SECTORS_MIN, 0, 0) == CARD_SHAPE);
+    CHECK(formatted(CARD_BUCKETS_MIN, CARD_SECTORS_MIN - 1, 0, 0) == CARD_SHAPE);
+    CHECK(formatted(CARD_BUCKETS_MIN, CARD_SECTORS_MAX + 1, 0, 0) == CARD_SHAPE);
+    CHECK(formatted(CARD_BUCKETS_MIN, CARD_SECTORS_MIN, CARD_TD_MIN - 1, 0) == CARD_SHAPE);
+    CHECK(formatted(CARD_BUCKETS_MIN, CARD_SECTORS_MIN, 0, CARD_TI_MIN - 1) == CARD_SHAPE);
+}
+
+/* td 0 and ti 0 as the header words them: the head has TD in byte 2 and TI in byte 3. */
+static void thresholds(void) {
+    uint8_t card[CARD_BYTES(2, 15)] = {0};
+    CHECK(card_format(card, sizeof card, 2, 15, 0, 0).code == CARD_OK);
+    CHECK(card[2] == 11 && card[3] == 14);
+}
+
+/* Each answer number, from a call that gives it. */
+static void answer_numbers(void) {
+    uint8_t card[CARD_BYTES(2, 4)] = {0};
+    size_t len = sizeof card;
+    CHECK(card_look(card, len, 1, 1).code == CARD_LAYOUT && CARD_LAYOUT == 1);
+    CHECK(card_format(card, len - 1, 2, 4, 0, 0).code == CARD_SHAPE && CARD_SHAPE == 8);
+    CHECK(card_format(card, len, 2, 4, 0, 0).code == CARD_OK && CARD_OK == 0);
+    CHECK(card_format(card, len, 2, 4, 0, 0).code == CARD_NOT_BLANK && CARD_NOT_BLANK == 9);
+    CHECK(card_look(card, len, 0, 1).code == CARD_NO_BIB && CARD_NO_BIB == 2);
+    CHECK(card_post(card, len, 1, 0, 5).code == CARD_STAMP && CARD_STAMP == 3);
+    CHECK(card_strike(card, len, 1, 1).code == CARD_NOTHING_STANDS && CARD_NOTHING_STANDS == 5);
+    CHECK(card_post(card, len, 1, 1, 5).code == CARD_OK);
+    CHECK(card_post(card, len, 1, 2, 5).code == CARD_OK);
+    CHECK(card_post(card, len, 1, CARD_NOW, 5).code == CARD_OK);
+    CHECK(card_post(card, len, 1, CARD_NOW, 5).code == CARD_STAMP);
+    CHECK(card_digits(0, 7).code == CARD_PANEL && CARD_PANEL == 7);
+    card[16] = 5;
+    CHECK(card_next(card, len, 0, CARD_NOW).code == CARD_DAMAGE && CARD_DAMAGE == 4);
+}
+
+static void a_full_card(void) {
+    uint8_t card[CARD_BYTES(2, 4)] = {0};
+    uint32_t at;
+    CHECK(card_format(card, sizeof card, 2, 4, 0, 0).code == CARD_OK);
+    for (at = 1; at <= 3; at++)
+        CHECK(card_post(card, sizeof card, 1, at, 5).code == CARD_OK);
+    CHECK(card_post(card, sizeof card, 1, at, 5).code == CARD_FULL && CARD_FULL == 6);
+}
+
+static void texts(void) {
+    static const char *const said[] = {
+        "accepted",
+        "the card's head or length breaks the layout",
+        "bib 0 is no bib",
+        "the stamp is not above the largest on the card",
+        "the card is damaged on the log or path",
+        "nothing stands for this bib",
+        "the card is full",
+        "the time does not fit the field",
+        "the shape breaks a limit or is not of the card's length",
+        "the card is not blank",
+        "no answer of the card",
+    };
+    uint32_t code;
+    for (code = 0; code <= 10; code++)
+        check(strcmp(card_text(code), said[code]) == 0, said[code]);
+}
+
+static void version(void) {
+    char numbers[16];
+    snprintf(numbers, sizeof numbers, "%d.%d.%d", CARD_VERSION_MAJOR, CARD_VERSION_MINOR, CARD_VERSION_PATCH);
+    check(strcmp(numbers, CARD_VERSION) == 0, "the version's numbers are its text");
+}
+
+int main(void) {
+    layout_of_the_structs();
+    limits();
+    thresholds();
+    answer_numbers();
+    a_full_card();
+    texts();
+    version();
+    return wrong;
+}
