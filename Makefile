@@ -1,6 +1,10 @@
 SHELL := /bin/bash
 .SHELLFLAGS := -eu -o pipefail -c
-.PHONY: run test bench easton
+.PHONY: run test install bench easton
+
+# Where `make install` puts the library.
+PREFIX ?= /usr/local
+ARCHIVE := target/staticlib/libcard.a
 
 # Document 01's sample session through the bench program.
 run:
@@ -11,12 +15,18 @@ run:
 test:
 	@scripts/gate
 
-# The library against the Rust implementation, in one run.
-bench:
+$(ARCHIVE): crates.txt $(shell find crates -type f)
+	@echo "Proving the library and making its archive; the first time takes minutes."
 	@scripts/quietly rt staticlib card
+
+# The archive, its header and a pkg-config file, below PREFIX.
+install: $(ARCHIVE)
+	@scripts/install "$(PREFIX)"
+
+# The library against the Rust implementation, in one run.
+bench: $(ARCHIVE)
 	@cd rust && cargo bench --offline --bench speed && cargo bench --offline --bench stack
 
 # Easton's experiment on the library.
-easton:
-	@scripts/quietly rt staticlib card
+easton: $(ARCHIVE)
 	@cd rust && cargo run --release --offline --example easton
