@@ -2,6 +2,9 @@
 
 use crate::sector::{all_zero, number, SECTOR};
 
+pub const MOST_SECTORS: usize = 32;
+pub const MOST_BUCKETS: usize = 4096;
+
 #[derive(Clone, Copy)]
 pub struct Head {
     /// m, the sectors of a bucket.
@@ -15,8 +18,8 @@ pub struct Head {
 impl Head {
     pub fn within_limits(&self) -> bool {
         let m = self.sectors;
-        (4..=32).contains(&m)
-            && (2..=4096).contains(&self.buckets)
+        (4..=MOST_SECTORS as u32).contains(&m)
+            && (2..=MOST_BUCKETS as u32).contains(&self.buckets)
             && (2..=m).contains(&self.td)
             && (4..=m).contains(&self.ti)
     }

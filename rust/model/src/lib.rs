@@ -2,7 +2,7 @@
 //!
 //! Written from the words of document 01 alone, so that a mistake in the proved library's rules
 //! and a mistake here are not the same mistake. Every call takes every slice of bytes, answers
-//! with the paper's five numbers and leaves the card as the paper says.
+//! with the paper's five numbers and leaves the card as the paper says. No call allocates.
 
 mod answer;
 mod bucket;
@@ -13,6 +13,7 @@ mod panel;
 pub mod paper;
 mod reading;
 mod rewrite;
+mod row;
 mod sector;
 mod walk;
 mod writing;

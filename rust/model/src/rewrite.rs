@@ -1,105 +1,124 @@
 //! What an accepted write leaves on the card: one sector, or new buckets up to where there is room.
 
 use crate::bucket::Run;
-use crate::head::Head;
+use crate::head::{Head, MOST_SECTORS};
+use crate::row::Row;
 use crate::sector::{all_zero, encode, Entry, Kind, SECTOR};
 
-/// The sectors a call writes. Made before the first of them is written, since a refusal leaves the
-/// card as it was.
-pub struct Plan {
-    head: Head,
-    sectors: Vec<(usize, Entry)>,
-    last_bucket: u32,
+/// What goes up to a bucket: the call's entry, or the pairs of one or two new buckets.
+type Sent = Row<2>;
+
+/// The entries in hand: those of a full bucket and what was sent to it.
+type Hand = Row<{ MOST_SECTORS + 2 }>;
+
+/// Writes `entry` over the buckets of its path, root first. `None` if the card has too few fresh buckets
+/// or no blank log sector for a new root; then nothing is written.
+pub fn write(card: &mut [u8], head: &Head, path: &[u32], entry: Entry) -> Option<()> {
+    let (&data, _) = path.split_last()?;
+    let run = judged(card, head, data);
+    if run.blanks() > 0 {
+        let place = head.place(data, run.len());
+        encode(entry, &mut card[place..place + SECTOR]);
+        return Some(());
+    }
+    let last_bucket = highest_used(card, head);
+    // once without writing, since a refusal leaves the card as it was
+    for writing in [false, true] {
+        Climb { card, head, stamp: entry.stamp, last_bucket, writing }.up(path, entry)?;
+    }
+    Some(())
 }
 
-impl Plan {
-    /// The plan for `entry` over the buckets of its path, root first; `None` if the card has too
-    /// few fresh buckets or no blank log sector for a new root.
-    pub fn of(card: &[u8], head: Head, path: &[(u32, Run)], entry: Entry) -> Option<Plan> {
-        let mut plan = Plan { head, sectors: Vec::new(), last_bucket: 0 };
-        let mut hand = vec![entry];
-        for (level, (bucket, run)) in path.iter().enumerate().rev() {
-            if run.blanks() >= hand.len() {
-                plan.append(*bucket, run.len(), &hand);
-                return Some(plan);
+/// A bucket of the path, which the walk has found sound.
+fn judged<'a>(card: &'a [u8], head: &Head, bucket: u32) -> Run<'a> {
+    Run::bucket(head.bucket(card, bucket), head.buckets).expect("the walk judged it")
+}
+
+/// The way from the data bucket to the level that has room.
+struct Climb<'a> {
+    card: &'a mut [u8],
+    head: &'a Head,
+    stamp: u32,
+    last_bucket: u32,
+    writing: bool,
+}
+
+impl Climb<'_> {
+    fn up(&mut self, path: &[u32], entry: Entry) -> Option<()> {
+        let mut sent = Sent::new();
+        sent.push(entry);
+        for &bucket in path.iter().rev() {
+            let run = judged(self.card, self.head, bucket);
+            let from = run.len();
+            if run.blanks() >= sent.entries().len() {
+                self.lay(self.head.place(bucket, from), sent.entries());
+                return Some(());
             }
-            if plan.last_bucket == 0 {
-                plan.last_bucket = highest_used(card, &head);
-            }
-            hand = plan.rewrite(run, &hand, entry.stamp)?;
-            if level == 0 {
-                plan.new_root(card, &hand, entry.stamp)?;
-            }
+            let limit = if run.is_index() { self.head.ti } else { self.head.td };
+            let kept = kept(&run, sent.entries());
+            sent = self.renewed(kept.entries(), limit)?;
         }
-        Some(plan)
+        self.new_root(sent.entries())
     }
 
-    fn append(&mut self, bucket: u32, from: usize, entries: &[Entry]) {
-        for (i, entry) in entries.iter().enumerate() {
-            self.sectors.push((self.head.place(bucket, from + i), *entry));
+    /// Entries one after the other from a place of the card on.
+    fn lay(&mut self, from: usize, entries: &[Entry]) {
+        if self.writing {
+            for (entry, sector) in entries.iter().zip(self.card[from..].chunks_mut(SECTOR)) {
+                encode(*entry, sector);
+            }
         }
     }
 
     /// Writes `entries` to the next fresh bucket and gives the pair that leads to it.
-    fn fresh(&mut self, entries: &[Entry], stamp: u32) -> Option<Entry> {
+    fn fresh(&mut self, entries: &[Entry]) -> Option<Entry> {
         if self.last_bucket == self.head.buckets {
             return None;
         }
         self.last_bucket += 1;
-        self.append(self.last_bucket, 0, entries);
-        Some(Entry { kind: Kind::Index, key: entries[0].key, stamp, value: self.last_bucket })
+        self.lay(self.head.place(self.last_bucket, 0), entries);
+        Some(Entry { kind: Kind::Index, key: entries[0].key, stamp: self.stamp, value: self.last_bucket })
     }
 
-    /// Reorganises a full bucket with the hand added: one or two fresh buckets, their pairs low first.
-    fn rewrite(&mut self, run: &Run, hand: &[Entry], stamp: u32) -> Option<Vec<Entry>> {
-        let kept = kept(run, hand);
-        let limit = if run.is_index() { self.head.ti } else { self.head.td };
+    /// One or two fresh buckets for what was kept; their pairs, low first.
+    fn renewed(&mut self, kept: &[Entry], limit: u32) -> Option<Sent> {
+        let mut pairs = Sent::new();
         if kept.len() < limit as usize {
-            return Some(vec![self.fresh(&kept, stamp)?]);
+            pairs.push(self.fresh(kept)?);
+        } else {
+            let (low, high) = kept.split_at(kept.len().div_ceil(2));
+            pairs.push(self.fresh(low)?);
+            pairs.push(self.fresh(high)?);
         }
-        let (low, high) = kept.split_at(kept.len().div_ceil(2));
-        Some(vec![self.fresh(low, stamp)?, self.fresh(high, stamp)?])
+        Some(pairs)
     }
 
     /// The root was rewritten: one bucket is the new root, two get a further bucket above them.
-    fn new_root(&mut self, card: &[u8], pairs: &[Entry], stamp: u32) -> Option<()> {
+    fn new_root(&mut self, pairs: &[Entry]) -> Option<()> {
         let top = match pairs {
             [one] => *one,
-            both => self.fresh(both, stamp)?,
+            both => self.fresh(both)?,
         };
-        let log = Run::log(self.head.log(card), self.head.buckets)?;
+        let log = Run::log(self.head.log(self.card), self.head.buckets)?;
         if log.blanks() == 0 {
             return None;
         }
         let place = SECTOR * (1 + log.len());
-        self.sectors.push((place, Entry { kind: Kind::Root, key: 0, ..top }));
+        self.lay(place, &[Entry { kind: Kind::Root, key: 0, ..top }]);
         Some(())
-    }
-
-    pub fn carry_out(&self, card: &mut [u8]) {
-        for &(place, entry) in &self.sectors {
-            encode(entry, &mut card[place..place + SECTOR]);
-        }
     }
 }
 
 /// The last copy of each key in key order, strikes dropped but for one on the header key and the
 /// entry just added.
-fn kept(run: &Run, hand: &[Entry]) -> Vec<Entry> {
-    let mut all: Vec<Entry> = Vec::with_capacity(run.len() + hand.len());
-    all.extend(run.entries());
-    all.extend_from_slice(hand);
-    all.sort_by_key(|entry| entry.key);
-    let mut last: Vec<Entry> = Vec::with_capacity(all.len());
-    for entry in all {
-        if last.last().is_some_and(|former| former.key == entry.key) {
-            last.pop();
-        }
-        last.push(entry);
+fn kept(run: &Run, sent: &[Entry]) -> Hand {
+    let mut hand = Hand::new();
+    for entry in run.entries().chain(sent.iter().copied()) {
+        hand.put_in_order(entry);
     }
-    let added = hand[0].key;
-    last.retain(|entry| entry.kind != Kind::Strike || entry.key == run.header() || entry.key == added);
-    last
+    let (header, added) = (run.header(), sent[0].key);
+    hand.retain(|entry| entry.kind != Kind::Strike || entry.key == header || entry.key == added);
+    hand
 }
 
 /// The highest bucket with a nonzero byte.

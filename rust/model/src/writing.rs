@@ -1,9 +1,9 @@
 //! The three calls that write: format, post and strike.
 
 use crate::answer::Answer;
-use crate::head::Head;
+use crate::head::{Head, MOST_BUCKETS};
 use crate::reading::standing;
-use crate::rewrite::Plan;
+use crate::rewrite;
 use crate::sector::{all_zero, encode, number, sectors, Entry, Kind, SECTOR};
 use crate::walk::walk;
 
@@ -47,17 +47,14 @@ pub fn strike(card: &mut [u8], bib: u32, at: u32) -> Answer {
 }
 
 fn write(card: &mut [u8], entry: Entry) -> Answer {
-    match planned(card, entry) {
+    match entered(card, entry) {
         Err(number) => Answer::refused(number),
-        Ok(plan) => {
-            plan.carry_out(card);
-            Answer::ACCEPTED
-        }
+        Ok(()) => Answer::ACCEPTED,
     }
 }
 
-/// What the call is to write, or its refusal.
-fn planned(card: &[u8], entry: Entry) -> Result<Plan, u32> {
+/// Writes the entry, or gives the refusal.
+fn entered(card: &mut [u8], entry: Entry) -> Result<(), u32> {
     let head = Head::of(card).ok_or(1u32)?;
     if entry.key == 0 {
         return Err(2);
@@ -65,12 +62,17 @@ fn planned(card: &[u8], entry: Entry) -> Result<Plan, u32> {
     if entry.stamp <= largest_stamp(&card[head.area()..]) {
         return Err(3);
     }
-    let mut path = Vec::new();
-    let reached = walk(card, &head, entry.key, NOW, |bucket, run| path.push((bucket, *run))).ok_or(4u32)?;
+    let mut path = [0; MOST_BUCKETS];
+    let mut met = 0;
+    let reached = walk(card, &head, entry.key, NOW, |bucket, _| {
+        path[met] = bucket;
+        met += 1;
+    });
+    let reached = reached.ok_or(4u32)?;
     if entry.kind == Kind::Strike && standing(&reached.data, entry.key, NOW).is_none() {
         return Err(5);
     }
-    Plan::of(card, head, &path, entry).ok_or(6)
+    rewrite::write(card, &head, &path[..met], entry).ok_or(6)
 }
 
 /// The largest stamp field of any bucket sector with nonzero kind, or 0.
