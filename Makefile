@@ -6,10 +6,9 @@ SHELL := /bin/bash
 PREFIX ?= /usr/local
 ARCHIVE := target/staticlib/libcard.a
 
-# Document 01's sample session through the bench program.
+# The sample session through the bench program, each line with its answer.
 run:
-	@rt check bench >/dev/null
-	@target/bin/bench < crates/bench/stdin
+	@scripts/run-sample
 
 # The gate. Its last line is rt's own count.
 test:
