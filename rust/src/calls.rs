@@ -1,7 +1,7 @@
 //! The calls, in Rust types.
 
 use crate::numbers::{self, Answer};
-use crate::{Look, Panel, Record, Refusal, Shape};
+use crate::{Look, Panel, Record, Records, Refusal, Shape};
 
 /// The answer of an accepted call, or the refusal.
 fn accepted(answer: Answer) -> Result<Answer, Refusal> {
@@ -9,7 +9,7 @@ fn accepted(answer: Answer) -> Result<Answer, Refusal> {
 }
 
 fn refused(number: u32) -> Option<Refusal> {
-    (number != 0).then(|| Refusal::from_number(number).expect("the library answers by document 01's numbers"))
+    (number != 0).then(|| Refusal::try_from(number).expect("the library answers by these numbers"))
 }
 
 /// Makes a blank card, all bytes zero and as long as the shape asks, an empty one.
@@ -103,8 +103,8 @@ pub fn next(card: &[u8], bib: u32, at: u32) -> Result<Option<Record>, Refusal> {
     accepted(numbers::next(card, bib, at)).map(Record::of)
 }
 
-/// Lays the records that [`next`] gives one after the other above `bib` down at the start of `out`, as post
-/// sectors of 16 bytes, as many as there are and as fit, and gives their number. The bytes behind them stay.
+/// The records that [`next`] gives one after the other above `bib`, as many as there are and as fit into
+/// `out`, in one call. They lie at its start as post sectors of 16 bytes each; the bytes behind them stay.
 ///
 /// Refused as [`next`] is, where a refusal is met before `out` is full; then `out` is as it was.
 ///
@@ -113,14 +113,21 @@ pub fn next(card: &[u8], bib: u32, at: u32) -> Result<Option<Record>, Refusal> {
 /// # let mut bytes = vec![0; Shape::new(16, 4).bytes().unwrap()];
 /// # card::format(&mut bytes, Shape::new(16, 4))?;
 /// card::post(&mut bytes, 7, 100, 59_990)?;
-/// let mut out = [0; 32];
-/// assert_eq!(card::records(&bytes, 0, 100, &mut out)?, 1);
-/// assert_eq!(out[..8], [1, 0, 0, 0, 7, 0, 0, 0]);
+/// card::post(&mut bytes, 5, 110, 58_120)?;
+/// let mut page = [0; 16 * 20];
+/// let records = card::records(&bytes, 0, 110, &mut page)?;
+/// assert_eq!(records.len(), 2);
+/// let bibs: Vec<u32> = records.map(|record| record.bib).collect();
+/// assert_eq!(bibs, [5, 7]);
+/// assert_eq!(page[..8], [1, 0, 0, 0, 5, 0, 0, 0]);
 /// # Ok::<(), Refusal>(())
 /// ```
-pub fn records(card: &[u8], bib: u32, at: u32, out: &mut [u8]) -> Result<usize, Refusal> {
+pub fn records<'a>(card: &[u8], bib: u32, at: u32, out: &'a mut [u8]) -> Result<Records<'a>, Refusal> {
     let tally = numbers::records(card, bib, at, out);
-    refused(tally.code).map_or(Ok(tally.count), Err)
+    match refused(tally.code) {
+        Some(refusal) => Err(refusal),
+        None => Ok(Records::of(out, tally.count)),
+    }
 }
 
 /// The digits of a time in thousandths on a panel field of 4, 5 or 6 places: seconds and

@@ -3,7 +3,8 @@
 //! A card is a slice of bytes. Nothing written on it is ever written over: a correction or an
 //! erasure is a further entry, and every question can be asked as of any past stamp. The calls are
 //! those of the proved library `libcard.a`; this crate lends it slices and turns its numbers into
-//! Rust types. No call panics, whatever bytes the card holds.
+//! Rust types. No call panics, whatever bytes the card holds. No call allocates, and the crate needs
+//! `core` alone. What each byte of a card means is said in `docs/FORMAT.md`.
 //!
 //! ```
 //! use card::{Record, Shape};
@@ -27,10 +28,14 @@
 //! # Ok::<(), card::Refusal>(())
 //! ```
 
+#![no_std]
+#![deny(missing_docs)]
+
 mod calls;
 pub mod numbers;
 mod panel;
 mod record;
+mod records;
 mod refusal;
 mod scroll;
 mod shape;
@@ -38,6 +43,17 @@ mod shape;
 pub use calls::{digits, format, look, next, post, records, strike};
 pub use panel::Panel;
 pub use record::{Look, Record};
-pub use refusal::Refusal;
-pub use scroll::{scroll, Scroll};
+pub use records::Records;
+pub use refusal::{NoRefusal, Refusal};
+pub use scroll::{scroll, scroll_above, Scroll};
 pub use shape::Shape;
+
+/// The examples of the two README pages are run with the others.
+#[cfg(doctest)]
+mod pages {
+    #[doc = include_str!("../README.md")]
+    struct OfThisPackage;
+
+    #[doc = include_str!("../../README.md")]
+    struct OfTheRepository;
+}

@@ -7,10 +7,15 @@
 #[repr(C)]
 #[derive(Clone, Copy, Debug, Default, PartialEq, Eq)]
 pub struct Answer {
+    /// 0, or the number of a refusal.
     pub code: u32,
+    /// The record's bib.
     pub bib: u32,
+    /// Its stamp; 0 is no record.
     pub at: u32,
+    /// Its time in thousandths of a second.
     pub time: u32,
+    /// The buckets read, in [`look`] only.
     pub reads: u32,
 }
 
@@ -18,7 +23,9 @@ pub struct Answer {
 #[repr(C)]
 #[derive(Clone, Copy, Debug, Default, PartialEq, Eq)]
 pub struct Tally {
+    /// 0, or the number of a refusal.
     pub code: u32,
+    /// The records laid down.
     pub count: usize,
 }
 
@@ -26,7 +33,9 @@ pub struct Tally {
 #[repr(C)]
 #[derive(Clone, Copy, Debug, Default, PartialEq, Eq)]
 pub struct Digits {
+    /// 0 or 7.
     pub code: u32,
+    /// The digits, highest first; places past the field are 0.
     pub places: [u8; 6],
 }
 

@@ -1,6 +1,6 @@
 //! The digits a panel shows.
 
-use std::fmt;
+use core::fmt;
 
 /// Four to six digits, highest first.
 #[derive(Clone, Copy, Debug, PartialEq, Eq, Hash)]

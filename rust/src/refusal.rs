@@ -1,11 +1,11 @@
 //! Why a call was refused.
 
-use std::error::Error;
-use std::fmt;
+use core::error::Error;
+use core::fmt;
 
-/// A refusal leaves the card as it was. The numbers are document 01's; its number 10 is given by
-/// the bench program alone.
+/// Why a call was refused; the card is then as it was. Later versions may have more of them.
 #[derive(Clone, Copy, Debug, PartialEq, Eq, Hash)]
+#[non_exhaustive]
 #[repr(u32)]
 pub enum Refusal {
     /// 1: the head or the length breaks the layout.
@@ -46,19 +46,30 @@ impl Refusal {
     /// ```
     /// assert_eq!(card::post(&mut [], 1, 1, 0).unwrap_err().number(), 1);
     /// ```
-    pub fn number(self) -> u32 {
+    pub const fn number(self) -> u32 {
         self as u32
     }
+}
 
-    /// The refusal with this number, if a call gives it.
-    ///
-    /// ```
-    /// use card::Refusal;
-    /// assert_eq!(Refusal::from_number(6), Some(Refusal::Full));
-    /// assert_eq!(Refusal::from_number(0), None);
-    /// ```
-    pub fn from_number(number: u32) -> Option<Refusal> {
-        Refusal::ALL.into_iter().find(|refusal| refusal.number() == number)
+/// The answer number.
+impl From<Refusal> for u32 {
+    fn from(refusal: Refusal) -> u32 {
+        refusal.number()
+    }
+}
+
+/// The refusal with this number. 0 is none, for it is no refusal.
+///
+/// ```
+/// use card::{NoRefusal, Refusal};
+/// assert_eq!(Refusal::try_from(6), Ok(Refusal::Full));
+/// assert_eq!(Refusal::try_from(0), Err(NoRefusal(0)));
+/// ```
+impl TryFrom<u32> for Refusal {
+    type Error = NoRefusal;
+
+    fn try_from(number: u32) -> Result<Refusal, NoRefusal> {
+        Refusal::ALL.into_iter().find(|refusal| refusal.number() == number).ok_or(NoRefusal(number))
     }
 }
 
@@ -79,3 +90,15 @@ impl fmt::Display for Refusal {
 }
 
 impl Error for Refusal {}
+
+/// A number that no refusal has.
+#[derive(Clone, Copy, Debug, PartialEq, Eq, Hash)]
+pub struct NoRefusal(pub u32);
+
+impl fmt::Display for NoRefusal {
+    fn fmt(&self, f: &mut fmt::Formatter<'_>) -> fmt::Result {
+        write!(f, "no refusal has the number {}", self.0)
+    }
+}
+
+impl Error for NoRefusal {}

@@ -1,6 +1,7 @@
 //! All records that stand, one at a time.
 
 use crate::{next, Record, Refusal};
+use core::iter::FusedIterator;
 
 /// The records that stand as of a stamp, by rising bib. It holds the card it reads and the bib
 /// last given, and nothing else.
@@ -26,7 +27,24 @@ pub struct Scroll<'a> {
 /// # Ok::<(), Refusal>(())
 /// ```
 pub fn scroll(card: &[u8], at: u32) -> Scroll<'_> {
-    Scroll { card, at, bib: 0, over: false }
+    scroll_above(card, 0, at)
+}
+
+/// Scrolls through the records of the bibs above `bib`, as of a stamp.
+///
+/// ```
+/// # use card::{Refusal, Shape};
+/// # let mut bytes = vec![0; Shape::new(16, 4).bytes().unwrap()];
+/// # card::format(&mut bytes, Shape::new(16, 4))?;
+/// card::post(&mut bytes, 7, 100, 59_990)?;
+/// card::post(&mut bytes, 5, 110, 58_120)?;
+/// let mut rest = card::scroll_above(&bytes, 5, 110);
+/// assert_eq!(rest.next().unwrap()?.bib, 7);
+/// assert_eq!(rest.next(), None);
+/// # Ok::<(), Refusal>(())
+/// ```
+pub fn scroll_above(card: &[u8], bib: u32, at: u32) -> Scroll<'_> {
+    Scroll { card, at, bib, over: false }
 }
 
 impl Iterator for Scroll<'_> {
@@ -44,3 +62,6 @@ impl Iterator for Scroll<'_> {
         step
     }
 }
+
+/// The end, and a refusal, are followed by `None` for good.
+impl FusedIterator for Scroll<'_> {}

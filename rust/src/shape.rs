@@ -8,28 +8,32 @@ pub struct Shape {
     pub buckets: u32,
     /// From 4 to 32.
     pub sectors: u32,
-    /// For data buckets: from 2 to `sectors`, or 0 for three quarters of them.
+    /// For data buckets: from 2 to `sectors`. 0 means three quarters of them, rounded down:
+    /// `sectors * 3 / 4`.
     pub td: u32,
-    /// For index buckets: from 4 to `sectors`, or 0 for seven eighths of them.
+    /// For index buckets: from 4 to `sectors`. 0 means all of them less an eighth, that eighth
+    /// rounded down: `sectors - sectors / 8`.
     pub ti: u32,
 }
 
 impl Shape {
-    /// A shape with the usual thresholds.
-    pub fn new(buckets: u32, sectors: u32) -> Shape {
+    /// A shape with the usual thresholds, 0 and 0.
+    pub const fn new(buckets: u32, sectors: u32) -> Shape {
         Shape { buckets, sectors, td: 0, ti: 0 }
     }
 
-    pub fn td(self, td: u32) -> Shape {
+    /// The same shape with this threshold for data buckets.
+    pub const fn td(self, td: u32) -> Shape {
         Shape { td, ..self }
     }
 
-    pub fn ti(self, ti: u32) -> Shape {
+    /// The same shape with this threshold for index buckets.
+    pub const fn ti(self, ti: u32) -> Shape {
         Shape { ti, ..self }
     }
 
-    /// The length of a card of this shape, 16 x (1 + N x (m + 1)), if it can be counted at all.
-    /// Whether the shape keeps the limits is for [`crate::format`] to say.
+    /// The length of a card of this shape, 16 x (1 + buckets x (sectors + 1)), if it can be counted
+    /// at all. Whether the shape keeps the limits is for [`crate::format`] to say.
     ///
     /// ```
     /// assert_eq!(card::Shape::new(819, 4).bytes(), Some(65_536));

@@ -1,6 +1,6 @@
 //! The safe functions say in Rust types what the numbers say.
 
-use card::{Look, Record, Refusal, Shape};
+use card::{Look, NoRefusal, Record, Refusal, Shape};
 
 fn small() -> Vec<u8> {
     let shape = Shape::new(2, 4);
@@ -27,15 +27,49 @@ fn each_refusal_by_its_name() {
     assert_eq!(card::next(&bytes, 0, 9), Err(Refusal::Damage));
 }
 
+/// Each number, its name and its words.
+const SAID: [(u32, Refusal, &str); 9] = [
+    (1, Refusal::Layout, "the card's head or length breaks the layout"),
+    (2, Refusal::NoBib, "bib 0 is no bib"),
+    (3, Refusal::Stamp, "the stamp is not above the largest on the card"),
+    (4, Refusal::Damage, "the card is damaged on the log or path"),
+    (5, Refusal::NothingStands, "nothing stands for this bib"),
+    (6, Refusal::Full, "the card is full"),
+    (7, Refusal::Panel, "the time does not fit the field"),
+    (8, Refusal::Shape, "the shape breaks a limit or is not of the card's length"),
+    (9, Refusal::NotBlank, "the card is not blank"),
+];
+
 #[test]
-fn numbers_and_names_are_one_to_one() {
-    for number in 1..=9 {
-        let refusal = Refusal::from_number(number).unwrap();
-        assert_eq!(refusal.number(), number);
-        assert!(!refusal.to_string().is_empty());
+fn numbers_names_and_words() {
+    for (number, refusal, words) in SAID {
+        assert_eq!(Refusal::try_from(number), Ok(refusal));
+        assert_eq!((u32::from(refusal), refusal.number()), (number, number));
+        assert_eq!(refusal.to_string(), words);
     }
     for number in [0, 10, 11, u32::MAX] {
-        assert_eq!(Refusal::from_number(number), None);
+        assert_eq!(Refusal::try_from(number), Err(NoRefusal(number)));
+        assert_eq!(NoRefusal(number).to_string(), format!("no refusal has the number {number}"));
+    }
+}
+
+/// The head has m, TD and TI in bytes 1 to 3; a threshold of 0 is stored as the number meant.
+#[test]
+fn shapes_as_the_head_has_them() {
+    let shape = Shape::new(3, 15);
+    let shapes =
+        [(shape, [11, 14]), (shape.td(2), [2, 14]), (shape.ti(5), [11, 5]), (shape.td(7).ti(9), [7, 9])];
+    for (shape, [td, ti]) in shapes {
+        let mut bytes = vec![0; shape.bytes().unwrap()];
+        card::format(&mut bytes, shape).unwrap();
+        assert_eq!(bytes[..8], [6, 15, td, ti, 3, 0, 0, 0]);
+    }
+}
+
+#[test]
+fn records_as_printed() {
+    for (time, shown) in [(0, "0.000"), (7, "0.007"), (59_990, "59.990"), (u32::MAX, "4294967.295")] {
+        assert_eq!(Record { bib: 12, at: 34, time }.to_string(), format!("bib 12: {shown} at 34"));
     }
 }
 

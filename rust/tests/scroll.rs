@@ -54,6 +54,22 @@ fn a_refusal_ends_it() {
     assert_eq!(steps.last(), Some(&Err(Refusal::Damage)));
 }
 
+/// From above any bib it gives what is left of the whole, and after its end it stays at the end.
+#[test]
+fn above_every_bib() {
+    let (bytes, _) = grown();
+    let whole: Vec<Record> = card::scroll(&bytes, 120).map(Result::unwrap).collect();
+    for bib in (0..=51).chain([u32::MAX]) {
+        let mut rest = card::scroll_above(&bytes, bib, 120);
+        let given: Vec<Record> = rest.by_ref().map(Result::unwrap).collect();
+        let above: Vec<Record> = whole.iter().copied().filter(|record| record.bib > bib).collect();
+        assert_eq!(given, above, "above {bib}");
+        assert_eq!((rest.next(), rest.next()), (None, None));
+    }
+    let mut broken = card::scroll(&bytes[1..], 120);
+    assert_eq!((broken.next(), broken.next(), broken.next()), (Some(Err(Refusal::Layout)), None, None));
+}
+
 /// What a row of records answers and leaves in the buffer, by the second implementation's next.
 fn row(card: &[u8], bib: u32, at: u32, out: &mut [u8]) -> Tally {
     let (mut last, mut laid) = (bib, Vec::new());
@@ -72,14 +88,32 @@ fn row(card: &[u8], bib: u32, at: u32, out: &mut [u8]) -> Tally {
     Tally { code: 0, count: laid.len() / 16 }
 }
 
-/// Both on one buffer, every byte compared, those around it too.
+/// Both on one buffer, every byte compared, those around it too; then the same through the safe function.
 fn compared(card: &[u8], bib: u32, at: u32, out: &mut [u8]) -> Tally {
+    let before = out.to_vec();
     let mut lent = Guarded::new(out, at as usize % 16);
     let given = card::numbers::records(card, bib, at, lent.card_mut());
     let expected = row(card, bib, at, out);
     assert_eq!((given, lent.card()), (expected, &*out), "above {bib} as of {at}");
     assert!(lent.whole(), "a byte beside the buffer, above {bib} as of {at}");
+    as_records(card, bib, at, before, given, out);
     given
+}
+
+/// The safe function gives the records of the buffer `left`, or the refusal, and leaves the same bytes.
+fn as_records(card: &[u8], bib: u32, at: u32, mut before: Vec<u8>, given: Tally, left: &[u8]) {
+    let number = |sector: &[u8], from: usize| u32::from_le_bytes(sector[from..from + 4].try_into().unwrap());
+    match card::records(card, bib, at, &mut before) {
+        Err(refusal) => assert_eq!(Tally { code: refusal.number(), count: 0 }, given),
+        Ok(records) => {
+            assert_eq!((0, records.len()), (given.code, given.count));
+            let laid = left.chunks(16).take(given.count);
+            let expected = laid.map(|s| Record { bib: number(s, 4), at: number(s, 8), time: number(s, 12) });
+            assert!(records.clone().rev().eq(expected.clone().collect::<Vec<_>>().into_iter().rev()));
+            assert!(records.eq(expected));
+        }
+    }
+    assert_eq!(before, left);
 }
 
 #[test]
