@@ -4,11 +4,14 @@ mod common;
 
 use card_model::call::MODEL;
 use common::random::Random;
+use common::wrapper::WRAPPER;
 use common::LIBRARY;
 
 fn same(time: u32, field: u32) {
-    let (answer, expected) = ((LIBRARY.digits)(time, field), (MODEL.digits)(time, field));
-    assert_eq!(answer, expected, "digits of {time} in a field of {field}");
+    let expected = (MODEL.digits)(time, field);
+    for side in [LIBRARY, WRAPPER] {
+        assert_eq!((side.digits)(time, field), expected, "digits of {time} in a field of {field}");
+    }
 }
 
 #[test]

@@ -1,7 +1,9 @@
-//! One card under the library and under the model, every answer and every byte compared.
+//! One card under the library and under the model, every answer and every byte compared. The library is
+//! asked by its numbers and through the safe functions.
 
 use super::growth::Geometry;
 use super::guarded::Guarded;
+use super::wrapper::WRAPPER;
 use super::LIBRARY;
 use card_model::call::{Call, MODEL};
 use card_model::Answer;
@@ -37,7 +39,7 @@ impl Pair {
     pub fn call(&mut self, call: Call) -> Answer {
         self.calls += 1;
         let expected = call.run(&MODEL, &mut self.own);
-        let answer = call.run(&LIBRARY, self.lent.card_mut());
+        let answer = self.asked(call);
         if answer != expected {
             self.differs(call, &format!("library {answer:?}, model {expected:?}"));
         }
@@ -49,6 +51,22 @@ impl Pair {
             self.differs(call, "a byte outside the card was written");
         }
         self.tally[answer.code as usize] += 1;
+        answer
+    }
+
+    /// The library's answer. A question is put both ways; a write, which can be made but once, by the numbers
+    /// and by the safe functions in turn.
+    fn asked(&mut self, call: Call) -> Answer {
+        let by_turns = if self.calls % 2 == 0 { LIBRARY } else { WRAPPER };
+        let answer = call.run(&by_turns, self.lent.card_mut());
+        if matches!(call, Call::Look { .. } | Call::Next { .. }) {
+            for side in [LIBRARY, WRAPPER] {
+                let again = call.run(&side, self.lent.card_mut());
+                if again != answer {
+                    self.differs(call, &format!("{answer:?}, and asked again {again:?}"));
+                }
+            }
+        }
         answer
     }
 

@@ -1,0 +1,41 @@
+//! The safe functions as a table of calls: what they say in Rust types, turned back into numbers.
+
+use card::{Look, Record, Refusal, Shape};
+use card_model::call::Calls;
+use card_model::{Answer, Digits};
+
+pub const WRAPPER: Calls = Calls {
+    format: |card, buckets, sectors, td, ti| {
+        done(card::format(card, Shape::new(buckets, sectors).td(td).ti(ti)))
+    },
+    post: |card, bib, at, time| done(card::post(card, bib, at, time)),
+    strike: |card, bib, at| done(card::strike(card, bib, at)),
+    look: |card, bib, at| match card::look(card, bib, at) {
+        Ok(Look { record: Some(record), reads }) => Answer { reads, ..found(record) },
+        Ok(Look { record: None, reads }) => Answer { bib, reads, ..Answer::ACCEPTED },
+        Err(refusal) => refused(refusal),
+    },
+    next: |card, bib, at| match card::next(card, bib, at) {
+        Ok(record) => record.map_or(Answer::ACCEPTED, found),
+        Err(refusal) => refused(refusal),
+    },
+    digits: |time, field| match card::digits(time, field) {
+        Ok(panel) => {
+            assert_eq!(panel.digits(), &panel.places()[..field as usize]);
+            Digits { code: 0, places: panel.places() }
+        }
+        Err(refusal) => Digits { code: refusal.into(), places: [0; 6] },
+    },
+};
+
+fn refused(refusal: Refusal) -> Answer {
+    Answer::refused(refusal.into())
+}
+
+fn done(answer: Result<(), Refusal>) -> Answer {
+    answer.map_or_else(refused, |()| Answer::ACCEPTED)
+}
+
+fn found(record: Record) -> Answer {
+    Answer { bib: record.bib, at: record.at, time: record.time, ..Answer::ACCEPTED }
+}
