@@ -10,6 +10,7 @@ pub mod guarded;
 pub mod mutate;
 pub mod pair;
 pub mod random;
+pub mod stack;
 pub mod wrapper;
 
 use card_model::call::Calls;

@@ -57,7 +57,7 @@ impl Pair {
     /// The library's answer. A question is put both ways; a write, which can be made but once, by the numbers
     /// and by the safe functions in turn.
     fn asked(&mut self, call: Call) -> Answer {
-        let by_turns = if self.calls % 2 == 0 { LIBRARY } else { WRAPPER };
+        let by_turns = if self.calls.is_multiple_of(2) { LIBRARY } else { WRAPPER };
         let answer = call.run(&by_turns, self.lent.card_mut());
         if matches!(call, Call::Look { .. } | Call::Next { .. }) {
             for side in [LIBRARY, WRAPPER] {

@@ -1,0 +1,80 @@
+//! No call takes more stack than include/card.h says, on cards of ours and on any.
+
+mod common;
+
+use card_model::call::{Call, MODEL};
+use common::bytes::get;
+use common::growth::Geometry;
+use common::{deep, stack, LIBRARY};
+
+const HEADER: &str = include_str!("../../include/card.h");
+
+/// A number that the header defines.
+fn said(name: &str) -> usize {
+    let defined = |line: &str| line.strip_prefix("#define ")?.strip_prefix(name)?.trim().parse().ok();
+    HEADER.lines().find_map(defined).expect("the header defines it")
+}
+
+/// A full card of ours with a tall tree, and the card and call that gave it its last root: a post that
+/// rewrote every level.
+fn tall() -> (Vec<u8>, Vec<u8>, Call) {
+    let geometry = Geometry { buckets: 4096, sectors: 4, td: 2, ti: 4 };
+    let mut card = vec![0; geometry.length()];
+    geometry.format().run(&MODEL, &mut card);
+    let (mut roots, mut last) = (1, None);
+    for at in 1.. {
+        let (before, call) = (card.clone(), Call::Post { bib: at, at, time: 1 });
+        if call.run(&MODEL, &mut card).code != 0 {
+            break;
+        }
+        if get(&card, 16 * (1 + roots)) != 0 {
+            roots += 1;
+            last = Some((before, call));
+        }
+    }
+    let (before, call) = last.expect("a root was rewritten");
+    (card, before, call)
+}
+
+#[test]
+fn on_cards_of_ours() {
+    let (full, before, rewrites) = tall();
+    let now = u32::MAX;
+    assert!((MODEL.look)(&full, 1, now).reads >= 10, "a tall tree");
+    let most = said("CARD_STACK_OURS");
+    let blank = vec![0; full.len()];
+    let calls = [
+        (&blank, Call::Format { buckets: 4096, sectors: 4, td: 2, ti: 4 }),
+        (&before, rewrites),
+        (&full, Call::Post { bib: 1, at: now, time: 1 }),
+        (&full, Call::Strike { bib: 1, at: now }),
+        (&full, Call::Look { bib: 1, at: now }),
+        (&full, Call::Next { bib: 1, at: now }),
+    ];
+    for (card, call) in calls {
+        let taken = stack::of_call(LIBRARY, card, call);
+        assert!(taken <= most, "{call:?} takes {taken}");
+    }
+    let mut page = [0; 16 * 20];
+    let records =
+        stack::on_a_thread(|| assert_eq!(card::numbers::records(&full, 0, now, &mut page).count, 20));
+    assert!(records <= most && stack::of_digits(LIBRARY) <= most, "records take {records}");
+}
+
+/// The most buckets that a write can rewrite: half of all, since each takes a fresh one.
+#[test]
+fn on_any_card() {
+    let most = said("CARD_STACK_ANY");
+    let (post, look) = (Call::Post { bib: 1, at: 50, time: 3 }, Call::Look { bib: 1, at: 50 });
+    let full = deep::card(2047, |_| 4, false);
+    let split = deep::card(1364, |_| 4, true);
+    let longest = deep::card(4095, |_| 1, false);
+    let next = Call::Next { bib: 0, at: 50 };
+    for (card, call) in
+        [(&full, post), (&split, Call::Post { bib: 2, at: 50, time: 3 }), (&longest, look), (&longest, next)]
+    {
+        assert_eq!(call.run(&MODEL, &mut card.to_vec()).code, 0, "{call:?}");
+        let taken = stack::of_call(LIBRARY, card, call);
+        assert!(taken <= most, "{call:?} takes {taken}");
+    }
+}
