@@ -37,7 +37,8 @@
  * entries that lead to them, the lower level before the upper, and an entry of the root log last of
  * all; and the sixteen bytes of a sector are stored one after the other, the kind first. So until
  * the first entry that leads to a fresh bucket is there, every question is answered as before the
- * call. That is the order in the source; compiler, cache and memory keep it only where they are made
+ * call. What the call has written stays: its fresh buckets count as used, and its stamp as given.
+ * That is the order in the source; compiler, cache and memory keep it only where they are made
  * to. A caller who needs more makes the call on a copy and brings the changed sectors over in that
  * order.
  *
