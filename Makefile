@@ -14,7 +14,7 @@ run:
 test:
 	@scripts/gate
 
-$(ARCHIVE): crates.txt $(shell find crates -type f)
+$(ARCHIVE): crates.txt $(shell find crates -name '*.rt' -o -name '*.antt')
 	@echo "Proving the library and making its archive; the first time takes minutes."
 	@scripts/quietly rt staticlib card
 
