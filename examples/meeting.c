@@ -1,7 +1,8 @@
 /* A day's meeting on a card that lies in a file: `meeting FILE`.
  *
- * The first run makes the file and records the morning; a later run opens it again and records the
- * afternoon. The file is mapped into memory, so the card's bytes are lent to the calls as they are.
+ * The first run makes the file and records the morning; a later run opens it again, asks the card for
+ * its last stamp and goes on above it. The file is mapped into memory, so the card's bytes are lent to
+ * the calls as they are.
  */
 #define _POSIX_C_SOURCE 200809L
 
@@ -51,6 +52,17 @@ static struct file open_card(const char *path) {
 static void close_card(struct file file) {
     if (msync(file.card, file.len, MS_SYNC) != 0 || munmap(file.card, file.len) != 0)
         die("the card");
+}
+
+/* What the card says of itself; the caller goes on above its last stamp. */
+static struct card_state state(struct file file) {
+    struct card_state state = card_state(file.card, file.len);
+    if (state.code != CARD_OK)
+        printf("state: %s\n", card_text(state.code));
+    else
+        printf("state: last stamp %u, %u of %u buckets fresh\n", state.last, state.buckets - state.used,
+               state.buckets);
+    return state;
 }
 
 static void post(struct file file, uint32_t bib, uint32_t at, uint32_t time) {
@@ -151,12 +163,17 @@ static void morning(struct file file) {
 }
 
 static void afternoon(struct file file) {
-    post(file, 3, 60, 58000); /* the morning's last stamp */
-    post(file, 8, 61, 62010);
-    strike(file, 7, 62);
-    look(file, 8, 61);
-    look(file, 8, 60);
+    struct card_state found = state(file);
+    uint32_t last = found.last;
+    if (found.code != CARD_OK) /* some other file */
+        exit(1);
+    post(file, 3, last, 58000); /* not above it */
+    post(file, 8, last + 1, 62010);
+    strike(file, 7, last + 2);
+    look(file, 8, last + 1);
+    look(file, 8, last);
     list(file, CARD_NOW);
+    state(file);
 }
 
 int main(int argc, char **argv) {

@@ -17,7 +17,8 @@
  * A refusal has its number in `code` and zeros beside it, and the card is unchanged. Where several
  * numbers could be given, the first in the order listed at the call is. Accepted is code 0.
  *
- * Threads. Any number of threads may ask (card_look, card_next, card_records) at the same time.
+ * Threads. Any number of threads may ask (card_look, card_next, card_records, card_state) at the
+ * same time.
  * card_format, card_post and card_strike need the card alone: no other call on it may run
  * meanwhile, and the caller sees to that. Different cards have nothing to do with each other.
  *
@@ -43,7 +44,8 @@
  * order.
  *
  * The last stamp. A post or strike needs a stamp above every stamp on the card, so one stamped
- * 4294967295 closes the card: it can be asked, but no more be written.
+ * 4294967295 closes the card: it can be asked, but no more be written. card_state tells the largest
+ * stamp of a card that is opened again.
  */
 #ifndef CARD_H
 #define CARD_H
@@ -145,6 +147,18 @@ struct card_tally {
     size_t count;  /* records laid down */
 };
 
+/* The answer of card_state. */
+struct card_state {
+    uint32_t code;    /* CARD_OK or CARD_LAYOUT */
+    uint32_t buckets; /* the card's buckets */
+    uint32_t sectors; /* the sectors of a bucket */
+    uint32_t td;      /* the threshold for data buckets, as the head has it: never 0 */
+    uint32_t ti;      /* the threshold for index buckets, likewise */
+    uint32_t begin;   /* the stamp from which the card answers: 0 */
+    uint32_t last;    /* the largest stamp; a post or strike needs one above it */
+    uint32_t used;    /* the highest bucket used; those above it, buckets - used, are fresh */
+};
+
 /* The answer of card_digits. */
 struct card_digits {
     uint32_t code;     /* CARD_OK or CARD_PANEL */
@@ -200,6 +214,16 @@ struct card_answer card_next(const uint8_t *card, size_t len, uint32_t bib, uint
  * Leaves the card as it was. */
 struct card_tally card_records(const uint8_t *card, size_t len, uint32_t bib, uint32_t at,
                                uint8_t *out, size_t room);
+
+/* What a program has to know of a card that it opens again: its shape, its largest stamp and how many
+ * buckets are used.
+ * `last` is the largest stamp of any sector of the buckets whose kind is not 0, or 0 where there is
+ * none: just what refusal 3 compares with. On a card that these calls have made it is the stamp of
+ * the last post or strike that was accepted. `used` is the highest bucket with a nonzero byte, or 0;
+ * the next fresh bucket is the one above it.
+ * Refused: 1, head or length breaks the layout. Damage is not asked for.
+ * Leaves the card as it was. */
+struct card_state card_state(const uint8_t *card, size_t len);
 
 /* The digits of a time in thousandths on a panel field of 4 (seconds, hundredths), 5 (a minute
  * digit before them) or 6 (two) places. The thousandths digit is dropped, leading zeros are shown.

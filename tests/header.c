@@ -21,6 +21,10 @@ static void layout_of_the_structs(void) {
     CHECK(offsetof(struct card_answer, bib) == 4 && offsetof(struct card_answer, at) == 8);
     CHECK(offsetof(struct card_answer, time) == 12 && offsetof(struct card_answer, reads) == 16);
     CHECK(sizeof(struct card_tally) == 16 && offsetof(struct card_tally, count) == 8);
+    CHECK(sizeof(struct card_state) == 32 && offsetof(struct card_state, buckets) == 4);
+    CHECK(offsetof(struct card_state, sectors) == 8 && offsetof(struct card_state, td) == 12);
+    CHECK(offsetof(struct card_state, ti) == 16 && offsetof(struct card_state, begin) == 20);
+    CHECK(offsetof(struct card_state, last) == 24 && offsetof(struct card_state, used) == 28);
     CHECK(sizeof(struct card_digits) == 12 && offsetof(struct card_digits, places) == 4);
 }
 
@@ -83,6 +87,19 @@ static void a_full_card(void) {
     CHECK(card_post(card, sizeof card, 1, at, 5).code == CARD_FULL && CARD_FULL == 6);
 }
 
+/* A card's state, and that of bytes that are no card. */
+static void states(void) {
+    static const struct card_state blank = {CARD_LAYOUT, 0, 0, 0, 0, 0, 0, 0};
+    static const struct card_state left = {CARD_OK, 5, 6, 3, 4, 0, 77, 2};
+    uint8_t card[CARD_BYTES(5, 6)] = {0};
+    struct card_state state = card_state(card, sizeof card);
+    CHECK(memcmp(&state, &blank, sizeof state) == 0);
+    CHECK(card_format(card, sizeof card, 5, 6, 3, 4).code == CARD_OK);
+    CHECK(card_post(card, sizeof card, 9, 77, 1).code == CARD_OK);
+    state = card_state(card, sizeof card);
+    CHECK(memcmp(&state, &left, sizeof state) == 0);
+}
+
 static void texts(void) {
     static const char *const said[] = {
         "accepted",
@@ -114,6 +131,7 @@ int main(void) {
     thresholds();
     answer_numbers();
     a_full_card();
+    states();
     texts();
     version();
     return wrong;
