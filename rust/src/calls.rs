@@ -1,7 +1,7 @@
 //! The calls, in Rust types.
 
 use crate::numbers::{self, Answer};
-use crate::{Look, Panel, Record, Records, Refusal, Shape};
+use crate::{Look, Panel, Record, Records, Refusal, Shape, State};
 
 /// The answer of an accepted call, or the refusal.
 fn accepted(answer: Answer) -> Result<Answer, Refusal> {
@@ -128,6 +128,29 @@ pub fn records<'a>(card: &[u8], bib: u32, at: u32, out: &'a mut [u8]) -> Result<
         Some(refusal) => Err(refusal),
         None => Ok(Records::of(out, tally.count)),
     }
+}
+
+/// What a program has to know of a card that it opens again: its shape, its largest stamp and how many
+/// buckets are used. On a card that these calls have made, the largest stamp is that of the last post or
+/// strike that was accepted.
+///
+/// Refused as [`Refusal::Layout`] alone: damage is not asked for.
+///
+/// ```
+/// # use card::{Refusal, Shape};
+/// # let mut bytes = vec![0; Shape::new(16, 4).bytes().unwrap()];
+/// # card::format(&mut bytes, Shape::new(16, 4))?;
+/// card::post(&mut bytes, 7, 100, 59_990)?;
+/// card::strike(&mut bytes, 7, 110)?;
+/// let state = card::state(&bytes)?;
+/// assert_eq!((state.last, state.used), (110, 2));
+/// assert_eq!(state.shape, Shape::new(16, 4).td(3).ti(4));
+/// # Ok::<(), Refusal>(())
+/// ```
+pub fn state(card: &[u8]) -> Result<State, Refusal> {
+    let numbers::State { code, buckets, sectors, td, ti, begin, last, used } = numbers::state(card);
+    let shape = Shape { buckets, sectors, td, ti };
+    refused(code).map_or(Ok(State { shape, begin, last, used }), Err)
 }
 
 /// The digits of a time in thousandths on a panel field of 4, 5 or 6 places: seconds and

@@ -39,14 +39,16 @@ mod records;
 mod refusal;
 mod scroll;
 mod shape;
+mod state;
 
-pub use calls::{digits, format, look, next, post, records, strike};
+pub use calls::{digits, format, look, next, post, records, state, strike};
 pub use panel::Panel;
 pub use record::{Look, Record};
 pub use records::Records;
 pub use refusal::{NoRefusal, Refusal};
 pub use scroll::{scroll, scroll_above, Scroll};
 pub use shape::Shape;
+pub use state::State;
 
 /// The examples of the two README pages are run with the others.
 #[cfg(doctest)]

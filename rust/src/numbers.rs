@@ -29,6 +29,28 @@ pub struct Tally {
     pub count: usize,
 }
 
+/// The answer to [`state`]: its number, 0 or 1, and seven values, all zero beside a refusal.
+#[repr(C)]
+#[derive(Clone, Copy, Debug, Default, PartialEq, Eq)]
+pub struct State {
+    /// 0 or 1.
+    pub code: u32,
+    /// The card's buckets.
+    pub buckets: u32,
+    /// The sectors of a bucket.
+    pub sectors: u32,
+    /// The threshold for data buckets, never 0.
+    pub td: u32,
+    /// The threshold for index buckets, never 0.
+    pub ti: u32,
+    /// The stamp from which the card answers: 0.
+    pub begin: u32,
+    /// The largest stamp, or 0.
+    pub last: u32,
+    /// The highest bucket used, or 0.
+    pub used: u32,
+}
+
 /// The panel routine's answer: its number, 0 or 7, and six places, all zero beside a refusal.
 #[repr(C)]
 #[derive(Clone, Copy, Debug, Default, PartialEq, Eq)]
@@ -40,10 +62,11 @@ pub struct Digits {
 }
 
 // as include/card.h has them
-const _: () = assert!(size_of::<Answer>() == 20 && size_of::<Digits>() == 12 && size_of::<Tally>() == 16);
+const _: () = assert!(size_of::<Answer>() == 20 && size_of::<Digits>() == 12);
+const _: () = assert!(size_of::<Tally>() == 16 && size_of::<State>() == 32);
 
 mod library {
-    use super::{Answer, Digits, Tally};
+    use super::{Answer, Digits, State, Tally};
 
     extern "C" {
         pub fn card_format(card: *mut u8, len: usize, buckets: u32, sectors: u32, td: u32, ti: u32)
@@ -60,6 +83,7 @@ mod library {
             out: *mut u8,
             room: usize,
         ) -> Tally;
+        pub fn card_state(card: *const u8, len: usize) -> State;
         pub fn card_digits(time: u32, field: u32) -> Digits;
     }
 }
@@ -96,6 +120,11 @@ pub fn next(card: &[u8], bib: u32, at: u32) -> Answer {
 /// As [`crate::records`].
 pub fn records(card: &[u8], bib: u32, at: u32, out: &mut [u8]) -> Tally {
     unsafe { library::card_records(card.as_ptr(), card.len(), bib, at, out.as_mut_ptr(), out.len()) }
+}
+
+/// As [`crate::state`].
+pub fn state(card: &[u8]) -> State {
+    unsafe { library::card_state(card.as_ptr(), card.len()) }
 }
 
 /// As [`crate::digits`].

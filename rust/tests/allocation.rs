@@ -73,6 +73,7 @@ fn no_call_of_either_allocates() {
         for number in [0, 1, 2, 3, 5, 6, 8, 9] {
             assert!(tally[number] > 0, "no call was answered {number}");
         }
+        assert_eq!(asked(|| (side.state)(&[0; 16])).1, 0);
         for field in 0..=7 {
             assert_eq!(asked(|| (side.digits)(59_999, field)).1, 0);
         }

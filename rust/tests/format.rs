@@ -1,7 +1,7 @@
 //! The card that docs/FORMAT.md shows: its bytes were written down by hand from the rules. The calls it names
 //! leave just these bytes, and its questions have the answers it gives.
 
-use card::{Look, Record, Refusal, Shape};
+use card::{Look, Record, Refusal, Shape, State};
 
 const PAGE: &str = include_str!("../../docs/FORMAT.md");
 
@@ -61,4 +61,10 @@ fn nexts_and_the_post_are_answered_as_the_page_says() {
         assert_eq!(card::next(&card, bib, at), Ok(record), "above {bib} as of {at}");
     }
     assert_eq!(card::post(&mut card, 3, 130, 1), Err(Refusal::Stamp));
+}
+
+#[test]
+fn the_card_says_of_itself_what_the_page_says() {
+    let shape = Shape { buckets: 4, sectors: 4, td: 3, ti: 4 };
+    assert_eq!(card::state(&dumped()), Ok(State { shape, begin: 0, last: 130, used: 4 }));
 }

@@ -55,6 +55,8 @@ fn on_cards_of_ours() {
         let taken = stack::of_call(LIBRARY, card, call);
         assert!(taken <= most, "{call:?} takes {taken}");
     }
+    let state = stack::on_a_thread(|| assert_eq!((LIBRARY.state)(&full).code, 0));
+    assert!(state <= most, "state takes {state}");
     let mut page = [0; 16 * 20];
     let records =
         stack::on_a_thread(|| assert_eq!(card::numbers::records(&full, 0, now, &mut page).count, 20));

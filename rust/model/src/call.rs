@@ -1,6 +1,6 @@
 //! The calls as a table and as values, so that one check runs against any implementation.
 
-use crate::{Answer, Digits};
+use crate::{Answer, Digits, State};
 
 /// One implementation's calls.
 #[derive(Clone, Copy)]
@@ -10,6 +10,7 @@ pub struct Calls {
     pub strike: fn(&mut [u8], u32, u32) -> Answer,
     pub look: fn(&[u8], u32, u32) -> Answer,
     pub next: fn(&[u8], u32, u32) -> Answer,
+    pub state: fn(&[u8]) -> State,
     pub digits: fn(u32, u32) -> Digits,
 }
 
@@ -20,6 +21,7 @@ pub const MODEL: Calls = Calls {
     strike: crate::strike,
     look: crate::look,
     next: crate::next,
+    state: crate::state,
     digits: crate::digits,
 };
 

@@ -15,10 +15,13 @@ mod reading;
 mod rewrite;
 mod row;
 mod sector;
+mod state;
+mod survey;
 mod walk;
 mod writing;
 
 pub use answer::Answer;
 pub use panel::{digits, Digits};
 pub use reading::{look, next};
+pub use state::{state, State};
 pub use writing::{format, post, strike};

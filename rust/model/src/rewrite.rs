@@ -3,7 +3,8 @@
 use crate::bucket::Run;
 use crate::head::{Head, MOST_SECTORS};
 use crate::row::Row;
-use crate::sector::{all_zero, encode, Entry, Kind, SECTOR};
+use crate::sector::{encode, Entry, Kind, SECTOR};
+use crate::survey::highest_used;
 
 /// What goes up to a bucket: the call's entry, or the pairs of one or two new buckets.
 type Sent = Row<2>;
@@ -119,9 +120,4 @@ fn kept(run: &Run, sent: &[Entry]) -> Hand {
     let (header, added) = (run.header(), sent[0].key);
     hand.retain(|entry| entry.kind != Kind::Strike || entry.key == header || entry.key == added);
     hand
-}
-
-/// The highest bucket with a nonzero byte.
-fn highest_used(card: &[u8], head: &Head) -> u32 {
-    (1..=head.buckets).rev().find(|&bucket| !all_zero(head.bucket(card, bucket))).unwrap_or(0)
 }

@@ -4,7 +4,8 @@ use crate::answer::Answer;
 use crate::head::{Head, MOST_BUCKETS};
 use crate::reading::standing;
 use crate::rewrite;
-use crate::sector::{all_zero, encode, number, sectors, Entry, Kind, SECTOR};
+use crate::sector::{all_zero, encode, Entry, Kind, SECTOR};
+use crate::survey::largest_stamp;
 use crate::walk::walk;
 
 /// Writes walk with this t: no entry is later.
@@ -59,7 +60,7 @@ fn entered(card: &mut [u8], entry: Entry) -> Result<(), u32> {
     if entry.key == 0 {
         return Err(2);
     }
-    if entry.stamp <= largest_stamp(&card[head.area()..]) {
+    if entry.stamp <= largest_stamp(card, &head) {
         return Err(3);
     }
     let mut path = [0; MOST_BUCKETS];
@@ -73,16 +74,4 @@ fn entered(card: &mut [u8], entry: Entry) -> Result<(), u32> {
         return Err(5);
     }
     rewrite::write(card, &head, &path[..met], entry).ok_or(6)
-}
-
-/// The largest stamp field of any bucket sector with nonzero kind, or 0.
-fn largest_stamp(area: &[u8]) -> u32 {
-    let mut largest = 0;
-    for sector in sectors(area) {
-        let stamp = number(sector, 8);
-        if sector[0] != 0 && stamp > largest {
-            largest = stamp;
-        }
-    }
-    largest
 }

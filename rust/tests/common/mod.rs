@@ -14,7 +14,7 @@ pub mod stack;
 pub mod wrapper;
 
 use card_model::call::Calls;
-use card_model::{Answer, Digits};
+use card_model::{Answer, Digits, State};
 use pair::Tally;
 use std::env;
 
@@ -25,6 +25,11 @@ pub const LIBRARY: Calls = Calls {
     strike: |card, bib, at| answer(card::numbers::strike(card, bib, at)),
     look: |card, bib, at| answer(card::numbers::look(card, bib, at)),
     next: |card, bib, at| answer(card::numbers::next(card, bib, at)),
+    state: |card| {
+        let card::numbers::State { code, buckets, sectors, td, ti, begin, last, used } =
+            card::numbers::state(card);
+        State { code, buckets, sectors, td, ti, begin, last, used }
+    },
     digits: |time, field| {
         let card::numbers::Digits { code, places } = card::numbers::digits(time, field);
         Digits { code, places }

@@ -11,6 +11,10 @@ use card_model::Answer;
 /// How often each answer number was given.
 pub type Tally = [u64; 10];
 
+fn is_question(call: Call) -> bool {
+    matches!(call, Call::Look { .. } | Call::Next { .. })
+}
+
 pub struct Pair {
     seed: u64,
     lent: Guarded,
@@ -50,8 +54,22 @@ impl Pair {
         if !self.lent.whole() {
             self.differs(call, "a byte outside the card was written");
         }
+        if !is_question(call) {
+            self.compare_states(call);
+        }
         self.tally[answer.code as usize] += 1;
         answer
+    }
+
+    /// What the card says of itself after a write, accepted or refused.
+    fn compare_states(&self, call: Call) {
+        let expected = (MODEL.state)(&self.own);
+        for side in [LIBRARY, WRAPPER] {
+            let state = (side.state)(self.lent.card());
+            if state != expected {
+                self.differs(call, &format!("library {state:?}, model {expected:?}"));
+            }
+        }
     }
 
     /// The library's answer. A question is put both ways; a write, which can be made but once, by the numbers
@@ -59,7 +77,7 @@ impl Pair {
     fn asked(&mut self, call: Call) -> Answer {
         let by_turns = if self.calls.is_multiple_of(2) { LIBRARY } else { WRAPPER };
         let answer = call.run(&by_turns, self.lent.card_mut());
-        if matches!(call, Call::Look { .. } | Call::Next { .. }) {
+        if is_question(call) {
             for side in [LIBRARY, WRAPPER] {
                 let again = call.run(&side, self.lent.card_mut());
                 if again != answer {

@@ -2,7 +2,7 @@
 
 use card::{Look, Record, Refusal, Shape};
 use card_model::call::Calls;
-use card_model::{Answer, Digits};
+use card_model::{Answer, Digits, State};
 
 pub const WRAPPER: Calls = Calls {
     format: |card, buckets, sectors, td, ti| {
@@ -18,6 +18,12 @@ pub const WRAPPER: Calls = Calls {
     next: |card, bib, at| match card::next(card, bib, at) {
         Ok(record) => record.map_or(Answer::ACCEPTED, found),
         Err(refusal) => refused(refusal),
+    },
+    state: |card| match card::state(card) {
+        Ok(card::State { shape: Shape { buckets, sectors, td, ti }, begin, last, used }) => {
+            State { code: 0, buckets, sectors, td, ti, begin, last, used }
+        }
+        Err(refusal) => State { code: refusal.into(), ..State::default() },
     },
     digits: |time, field| match card::digits(time, field) {
         Ok(panel) => {
