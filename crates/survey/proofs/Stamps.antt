@@ -4,52 +4,58 @@ use mathlib.Core.Logic.{⊎-elim}
 use mathlib.Core.Bool.{Bool, true, false}
 use mathlib.Core.List.{List, _++_}
 use Prim.Native.Nat.{ℕ, zero, suc, _+_, _-_, _*_, _≤_, _<_, max}
-use native.Mathlib.Nat.{max-zero, max-comm, mul-comm, mul-add, suc-mul}
+use native.Mathlib.Nat.{max-zero, max-comm, mul-comm, mul-add, suc-mul, mul-le-mul, mul-le-mul-right}
 use native.Mathlib.Numerals.{add-one}
 use native.Mathlib.Omega.{arith}
 use lib.ListN.{length, take, drop, getD, length-drop, take-append-drop}
+use lib.Dec.{eqb, leb}
 use lib.Seq.{length-take-le, take-append-add, drop-drop}
-use borrow.Author.Tests.{eq-eqb}
+use borrow.Author.Tests.{eq-eqb, le-leb}
 use Rattle.rules.specs.declared.Head.{Head}
-use Rattle.rules.specs.Plain.{_&_, zeros}
-use Rattle.rules.specs.Sector.{sectorAt}
-use Rattle.rules.specs.Layout.{base}
+use Rattle.rules.specs.Plain.{if, _&_, _or_, zeros}
+use Rattle.rules.specs.Sector.{sectorAt, word}
+use Rattle.rules.specs.Layout.{base, sizeOf}
 use Rattle.rules.specs.Bucket.{unwritten}
 use Rattle.rules.specs.Write.{stampOf, topStamp, topUsed}
-use Rattle.laws.proofs.Tools.{and-true, bool-cases}
+use Rattle.laws.proofs.Tools.{and-true, bool-cases, false-true, le-or-lt}
 use Rattle.laws.proofs.Heads.{bucket-fits}
 use Rattle.scan.specs.Look.{partOf}
 use Rattle.scan.proofs.Blanks.{zeros-append}
-use Rattle.scan.proofs.Parts.{sector-part}
 use Rattle.laws.proofs.Zeros.{zeros-get, zero-take, zero-drop}
 use Rattle.bucket.specs.Shapes.{Shape}
+use Rattle.survey.specs.declared.Area.{Area}
 use Rattle.survey.specs.Survey.{surveyOf}
 
 max-assoc : (a b c : ℕ) → max a (max b c) ≡ max (max a b) c
 max-assoc a b c = omega arith
 
--- one sector of a bucket weighed
-pub stamp-turn : (part : List ℕ) (m i top s more R : ℕ) → i < m → max top (topStamp part i (m - i)) ≡ R → s ≡ stampOf (sectorAt part i)
-    → more ≡ max top s → max more (topStamp part (i + 1) (m - (i + 1))) ≡ R
-unfolding topStamp
-stamp-turn part m i top s more R lt inv e f =
-    let k : m - i ≡ suc (m - (i + 1)) = omega arith in
-    rw (f, e, add-one) (sym (max-assoc _ _ _) ∙ (rw (k, add-one) at inv))
+-- a stamp field is no less than the stamp, which is 0 where the kind is
+stamp-le : (s : List ℕ) → stampOf s ≤ word s 8
+unfolding stampOf
+stamp-le s = go (eqb (getD s 0 0) 0) where
+  go : (b : Bool) → if b 0 (word s 8) ≤ word s 8
+  go true = omega arith
+  go false = omega arith
 
-pub stamp-end : (part : List ℕ) (m i top R : ℕ) → m ≤ i → max top (topStamp part i (m - i)) ≡ R → top ≡ R
+top-next : (card : List ℕ) (i to : ℕ) → i < to → topStamp card i (to - i) ≡ max (stampOf (sectorAt card i)) (topStamp card (i + 1) (to - (i + 1)))
 unfolding topStamp
-stamp-end part m i top R le inv = let k : m - i ≡ 0 = omega arith in sym (max-zero top) ∙ (rw k at inv)
+top-next card i to lt = let k : to - i ≡ suc (to - (i + 1)) = omega arith in rw (k, add-one)
 
-pub stamp-start : (part : List ℕ) (m : ℕ) → max 0 (topStamp part 0 (m - 0)) ≡ topStamp part 0 m
-stamp-start part m = let z : m - 0 ≡ m = omega arith in rw z (max-comm 0 _ ∙ max-zero _)
+-- one sector's field weighed: what is no less than it and than what was seen is no less than the stamps seen
+pub field-turn : (card : List ℕ) (to i top s more R : ℕ) → i < to → R ≤ max top (topStamp card i (to - i)) → s ≡ word (sectorAt card i) 8
+    → top ≤ more → s ≤ more → R ≤ max more (topStamp card (i + 1) (to - (i + 1)))
+field-turn card to i top s more R lt inv e le more-le =
+    let a = stamp-le (sectorAt card i) in
+    let b = top-next card i to lt in
+    omega arith
 
--- the sectors of a part stamp as those of the card
-part-stamp : (card : List ℕ) (o m j c : ℕ) → 16 * (o + m) ≤ length card → j + c ≤ m → topStamp (take (16 * m) (drop (16 * o) card)) j c ≡ topStamp card (o + j) c
+pub field-end : (card : List ℕ) (to i top R : ℕ) → to ≤ i → R ≤ max top (topStamp card i (to - i)) → R ≤ top
 unfolding topStamp
-part-stamp card o m j zero long le = refl
-part-stamp card o m j (suc c) long le =
-    ap₂ (λ (s : List ℕ) (r : ℕ). max (stampOf s) r) (sector-part card o m j long (omega arith))
-    (part-stamp card o m (suc j) c long (omega arith) ∙ ap (λ (k : ℕ). topStamp card k c) (let z : o + suc j ≡ suc (o + j) = omega arith in z))
+field-end card to i top R le inv = let k : to - i ≡ 0 = omega arith in let j = rw k at inv in omega arith
+
+pub or-false : (a b : Bool) → (a or b) ≡ false → (a ≡ false) × (b ≡ false)
+or-false true b q = absurd (false-true (sym q))
+or-false false b q = (refl, q)
 
 -- a run of sectors stamps as its two parts
 stamp-split : (card : List ℕ) (i a c : ℕ) → topStamp card i (a + c) ≡ max (topStamp card i a) (topStamp card (i + a) c)
@@ -62,6 +68,37 @@ stamp-split card i (suc a) c =
     let z : suc a + c ≡ suc (a + c) = omega arith in
     let y : i + suc a ≡ suc i + a = omega arith in
     rw (z, y) (ap (max (stampOf (sectorAt card i))) (stamp-split card (suc i) a c) ∙ max-assoc _ _ _)
+
+-- from behind: one sector more
+pub from-start : (card : List ℕ) (to : ℕ) → 0 ≡ topStamp card to (to - to)
+unfolding topStamp
+from-start card to = let k : to - to ≡ 0 = omega arith in rw k
+
+pub from-turn : (card : List ℕ) (to i top s more : ℕ) → i < to → top ≡ topStamp card (i + 1) (to - (i + 1)) → s ≡ stampOf (sectorAt card i) → more ≡ max top s
+    → more ≡ topStamp card i (to - i)
+from-turn card to i top s more lt inv e f = let b = top-next card i to lt in omega arith
+
+-- the sectors from i on are some of those from `from` on
+pub from-less : (card : List ℕ) (from to i : ℕ) → from ≤ i → i ≤ to → topStamp card i (to - i) ≤ topStamp card from (to - from)
+from-less card from to i le lt =
+    let k : to - from ≡ (i - from) + (to - i) = omega arith in
+    let z : from + (i - from) ≡ i = omega arith in
+    let d : topStamp card from (to - from) ≡ max (topStamp card from (i - from)) (topStamp card i (to - i)) =
+    ap (topStamp card from) k ∙ stamp-split card from (i - from) (to - i) ∙ ap (λ (j : ℕ). max (topStamp card from (i - from)) (topStamp card j (to - i))) z in
+    omega arith
+
+-- so many sectors from one on
+pub span : (card : List ℕ) (from k to : ℕ) → to ≡ from + k → topStamp card from (to - from) ≡ topStamp card from k
+span card from k to e = ap (topStamp card from) (let z : to - from ≡ k = omega arith in z)
+
+-- a stamp r that is there, and the largest T, which it is unless it is enough
+pub enough-is : (enough T r : ℕ) → r ≤ T → (r < enough → T ≤ r) → T ≤ enough → r ≡ T
+enough-is enough T r some else most = ⊎-elim (λ (le : enough ≤ r). omega arith) (λ (lt : r < enough). omega (arith, else lt)) (le-or-lt enough r)
+
+pub enough-late : (enough T r : ℕ) → r ≤ T → (r < enough → T ≤ r) → leb enough r ≡ leb enough T
+enough-late enough T r some else =
+    ⊎-elim (λ (le : enough ≤ r). le-leb enough r le ∙ sym (le-leb enough T (omega arith)))
+    (λ (lt : r < enough). ap (leb enough) (let z : r ≡ T = omega (arith, else lt) in z)) (le-or-lt enough r)
 
 -- a part is all zeros where none of its sectors is written
 part-zeros : (card : List ℕ) (i c : ℕ) → 16 * (i + c) ≤ length card → zeros (take (16 * c) (drop (16 * i) card)) ≡ unwritten card i c
@@ -126,16 +163,6 @@ module _ (h : Head) (card : List ℕ) (b : ℕ) (sh : Shape h card) (lt : b < h 
       (next-stamp ∙ ap (max (topStamp card (1 + h .n) (b * h .m))) (blank-stamp card (base h (b + 1)) (h .m) u) ∙ max-zero _)
       (used-blank h card b u)
 
-  -- a nonzero byte: its stamps count, and it is the highest so far
-  pub survey-full : zeros (partOf h card (b + 1)) ≡ false
-      → surveyOf h card (b + 1) ≡ record { stamp = max (surveyOf h card b .stamp) (topStamp (partOf h card (b + 1)) 0 (h .m)); used = b + 1 }
-  unfolding surveyOf partOf
-  survey-full z =
-      let u : unwritten card (base h (b + 1)) (h .m) ≡ false = sym (part-zeros card (base h (b + 1)) (h .m) fits) ∙ z in
-      let p : topStamp card (base h (b + 1)) (h .m) ≡ topStamp (partOf h card (b + 1)) 0 (h .m) =
-      sym (part-stamp card (base h (b + 1)) (h .m) 0 (h .m) fits (omega arith) ∙ ap (λ (k : ℕ). topStamp card k (h .m)) (let y : base h (b + 1) + 0 ≡ base h (b + 1) = omega arith in y)) in
-      ap₂ (λ (s u : ℕ). record { stamp = s; used = u }) (next-stamp ∙ ap (max (topStamp card (1 + h .n) (b * h .m))) p) (used-here h card b u)
-
 -- nothing behind bucket b: what b buckets hold is what all hold
 module _ (h : Head) (card : List ℕ) (b : ℕ) (sh : Shape h card) (blank : zeros (drop (16 * base h (b + 1)) card) ≡ true) where
   behind : (k : ℕ) → zeros (partOf h card (b + k + 1)) ≡ true
@@ -154,6 +181,27 @@ module _ (h : Head) (card : List ℕ) (b : ℕ) (sh : Shape h card) (blank : zer
   pub survey-rest : b ≤ h .n → surveyOf h card (h .n) ≡ surveyOf h card b
   survey-rest le = ap (surveyOf h card) (let z : h .n ≡ b + (h .n - b) = omega arith in z) ∙ up (h .n - b) (omega arith)
 
-pub survey-none : (h : Head) (card : List ℕ) → record { stamp = 0; used = 0 } ≡ surveyOf h card 0
-unfolding surveyOf topStamp topUsed
-survey-none h card = let z : 0 * h .m ≡ 0 = omega arith in rw z
+-- from behind: a bucket of zeros is passed by, the first other one is the highest
+module _ (h : Head) (card : List ℕ) (b : ℕ) (sh : Shape h card) (some : 0 < b) (le : b ≤ h .n) where
+  turn : b - 1 + 1 ≡ b
+  turn = omega arith
+
+  pub highest-blank : zeros (partOf h card b) ≡ true → topUsed h card (b - 1) ≡ topUsed h card b
+  unfolding surveyOf
+  highest-blank z = ap (λ (s : Area). s .used) (sym (survey-blank h card (b - 1) sh (omega arith) (rw turn z))) ∙ ap (topUsed h card) turn
+
+  pub highest-here : zeros (partOf h card b) ≡ false → b ≡ topUsed h card b
+  unfolding partOf
+  highest-here z =
+      let u : unwritten card (base h (b - 1 + 1)) (h .m) ≡ false = rw turn (sym (part-zeros card (base h b) (h .m) (bucket-fits h card b (sh .long) (omega arith) le)) ∙ z) in
+      sym (ap (topUsed h card) (sym turn) ∙ used-here h card (b - 1) u ∙ turn)
+
+-- the first b buckets end on the card
+pub area-room : (h : Head) (card : List ℕ) (b : ℕ) → Shape h card → b ≤ h .n → (b * h .m ≤ 131072) × (16 * (1 + h .n + b * h .m) ≤ length card)
+unfolding sizeOf
+area-room h card b sh le =
+    let most : b * h .m ≤ h .n * h .m = mul-le-mul-right (h .m) le in
+    let small : h .n * h .m ≤ 4096 * 32 = mul-le-mul (sh .lim .n4096) (sh .lim .m32) in
+    let long = sh .long in
+    let more : h .n * (h .m + 1) ≡ h .n * h .m + h .n * 1 = mul-add (h .n) (h .m) 1 in
+    (omega arith, omega (arith, most, more, long))

@@ -1,4 +1,4 @@
--- What the first b buckets hold, as the pass goes through them.
+-- What the first b buckets hold: their largest stamp, and the highest of them with a nonzero byte.
 use Prim.Native.Nat.{ℕ, _+_, _*_}
 use mathlib.Core.List.{List}
 use Rattle.rules.specs.declared.Head.{Head}

@@ -1,13 +1,13 @@
 -- The refusals of a write in their order, as its functions give them.
 use mathlib.Core.Path.{_≡_, refl, ap, sym, _∙_}
 use mathlib.Core.Logic.{⊎-elim}
-use mathlib.Core.Bool.{true, false, not}
+use mathlib.Core.Bool.{Bool, true, false, not}
 use mathlib.Core.Option.{Option, none, some}
 use mathlib.Core.List.{List, []}
-use Prim.Native.Nat.{ℕ, zero, suc, _≤_, _<_}
+use Prim.Native.Nat.{ℕ, zero, suc}
 use native.Mathlib.Omega.{arith}
-use lib.Dec.{eqb}
-use borrow.Author.Tests.{eq-eqb, ne-eqb, le-leb, lt-leb}
+use lib.Dec.{eqb, leb}
+use borrow.Author.Tests.{eq-eqb, ne-eqb}
 use Rattle.rules.specs.declared.Entry.{Entry}
 use Rattle.rules.specs.declared.Head.{Head}
 use Rattle.rules.specs.Plain.{_&_, isNone}
@@ -17,8 +17,6 @@ use Rattle.rules.specs.Walk.{Visit, walk, standing, standsOn, copyOf, left, dat
 use Rattle.rules.specs.Write.{Plan, refuse, refuseIf, planOn, planAt, planFor, plan, stampOn, latest}
 use Rattle.laws.proofs.Tools.{bool-cases}
 use Rattle.scan.specs.declared.Found.{Found}
-use Rattle.survey.specs.Survey.{surveyOf}
-use Rattle.survey.specs.declared.Area.{Area}
 use Rattle.scan.proofs.Picks.{hit}
 use Rattle.trail.proofs.Tracks.{trackIn}
 use Rattle.climb.specs.Levels.{upward}
@@ -86,19 +84,15 @@ module _ (card : List ℕ) (e : Entry) where
     unfolding plan planFor refuseIf
     no-bib z = rw (q, eq-eqb (e .key) 0 z)
 
-    -- by the stamp that a survey gives
-    module _ (ne : e .key ≡ 0 → ⊥) (y : Area) (is : y ≡ surveyOf h card (h .n)) where
-      seen : y .stamp ≡ stampOn h card
-      unfolding surveyOf stampOn
-      seen = ap (λ (z : Area). z .stamp) is
-
-      pub stale : e .stamp ≤ y .stamp → plan card e ≡ refuse 3
+    -- by what a survey says of the stamp
+    module _ (ne : e .key ≡ 0 → ⊥) (late : Bool) (is : late ≡ leb (e .stamp) (stampOn h card)) where
+      pub stale : late ≡ true → plan card e ≡ refuse 3
       unfolding plan planFor refuseIf
-      stale le = rw (q, ne-eqb (e .key) 0 ne, le-leb (e .stamp) (stampOn h card) (omega (arith, seen)))
+      stale y = rw (q, ne-eqb (e .key) 0 ne, ← is, y)
 
-      pub goes-in : y .stamp < e .stamp → plan card e ≡ planAt h card e (walk h card latest (e .key))
+      pub goes-in : late ≡ false → plan card e ≡ planAt h card e (walk h card latest (e .key))
       unfolding plan planFor refuseIf
-      goes-in gt = rw (q, ne-eqb (e .key) 0 ne, lt-leb (e .stamp) (stampOn h card) (omega (arith, seen)))
+      goes-in y = rw (q, ne-eqb (e .key) 0 ne, ← is, y)
 
 -- the track of a walk that came to data is its path
 pub came-path : (h : Head) (card : List ℕ) (x : ℕ) → Came h card x → trackIn x [] (walk h card latest x) .path ≡ upward (walked h card x) []

@@ -121,8 +121,8 @@ fn enter(card: &mut [u8], e: Entry) -> Answer
     if e.key == 0 {
         return walk::refusal(2);
     }
-    let area = survey::survey(card, head);
-    if e.stamp <= area.stamp {
+    let area = survey::survey_for(card, head, e.stamp);
+    if area.late {
         return walk::refusal(3);
     }
     insert(card, head, e, area.used)

@@ -1,12 +1,9 @@
 -- `write::enter` follows the rule's plan for an entry.
 use borrow.Author.Needs.{needs}
-use native.Mathlib.Omega.{arith}
-use mathlib.Core.Path.{_≡_, ap, sym, _∙_}
+use mathlib.Core.Path.{_≡_, sym, _∙_}
 use mathlib.Core.Option.{some}
 use Rattle.rules.specs.Layout.{headOf}
 use Rattle.bucket.proofs.Room.{shape-of}
-use Rattle.survey.specs.Survey.{surveyOf}
-use Rattle.survey.specs.declared.Area.{Area}
 use Rattle.walk.proofs.Walks.{broken-none, sound-some}
 use Rattle.laws.proofs.Follows.{refuses, follows-same}
 use Rattle.write.proofs.Codes.{no-head, no-bib, stale, goes-in}
@@ -32,35 +29,34 @@ returns-2 c =
     let f = refuses _ (a .card .now) _ 2 (no-bib (a .card .now) (a .e) _ (head-met at-layout) (c .before .if1 .taken)) (c .refusal2 .ensures) in
     (f .answer, f .bytes)
 
-survey-requires : tie.Need-survey-requires
-survey-requires c κs = shape-of _ _ (head-met (c .before .before .before .before))
+survey-for-requires : tie.Need-survey-for-requires
+survey-for-requires c κs = shape-of _ _ (head-met (c .before .before .before .before))
 
 returns-3 : tie.Need-returns-3
 returns-3 c =
-    let at-survey = c .before .before .before .before in
+    let at-survey = c .before .before in
     let at-if1 = at-survey .before .before in
     let at-layout = at-if1 .before .before .before in
     let a = at-layout .before .before .before .before .before .args in
-    let is = stale (a .card .now) (a .e) _ (head-met at-layout) (at-if1 .if1 .left) (at-survey .survey .result) (at-survey .survey .ensures) (omega (arith, c .before .if2 .taken)) in
+    let is = stale (a .card .now) (a .e) _ (head-met at-layout) (at-if1 .if1 .left) _ (at-survey .survey-for .ensures .0) (c .before .if2 .taken) in
     let f = refuses _ (a .card .now) _ 3 is (c .refusal3 .ensures) in
     (f .answer, f .bytes)
 
 insert-requires : tie.Need-insert-requires
-unfolding surveyOf
 insert-requires c κs =
-    let at-survey = c .before .before .before .before in
+    let at-survey = c .before .before in
     let at-layout = at-survey .before .before .before .before .before in
-    (head-met at-layout, at-layout .before .before .before .before .before .pre, ap (λ (y : Area). y .used) (at-survey .survey .ensures))
+    (head-met at-layout, at-layout .before .before .before .before .before .pre, at-survey .survey-for .ensures .1)
 
 returns-4 : tie.Need-returns-4
 returns-4 c =
     let at-insert = c .before .before in
     let at-if2 = at-insert .before .before in
-    let at-survey = at-if2 .before .before .before in
+    let at-survey = at-if2 .before in
     let at-if1 = at-survey .before .before in
     let at-layout = at-if1 .before .before .before in
     let a = at-layout .before .before .before .before .before .args in
-    let is = goes-in (a .card .now) (a .e) _ (head-met at-layout) (at-if1 .if1 .left) (at-survey .survey .result) (at-survey .survey .ensures) (omega (arith, at-if2 .if2 .left)) in
+    let is = goes-in (a .card .now) (a .e) _ (head-met at-layout) (at-if1 .if1 .left) _ (at-survey .survey-for .ensures .0) (at-if2 .if2 .left) in
     let l = at-insert .insert .ensures in
     let f = follows-same _ _ (a .card .now) _ _ is (record { answer = l .0; bytes = l .1 }) in
     (f .answer, f .bytes)
@@ -69,5 +65,5 @@ pub enter-spec : {M : Type 1} → statement M
 enter-spec =
     tie.close
     (tie.spec (λ c κs. search needs) (λ c. search needs) (λ c. search needs) (λ c κs. search needs) (λ c. search needs)
-    returns (λ c κs. search needs) (λ c. search needs) returns-2 survey-requires (λ c κs. search needs)
+    returns (λ c κs. search needs) (λ c. search needs) returns-2 survey-for-requires (λ c κs. search needs)
     (λ c. search needs) returns-3 insert-requires (λ c. search needs) returns-4)
