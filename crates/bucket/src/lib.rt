@@ -1,30 +1,21 @@
 // The buckets and the log of a card, as parts of it, and the search of one of them.
 ghost use mathlib.Core.Path.{_≡_};
-ghost use Prim.Native.Nat.{_-_, _*_, _≤_};
+ghost use Prim.Native.Nat.{_+_, _-_, _*_, _≤_, _<_};
 ghost use lib.ListN.{length, drop};
 ghost use Rattle.rules.specs.Layout.{base};
-ghost use Rattle.scan.specs.Scan.{sectors, scanIn, search, searchLog};
+ghost use mathlib.Core.Bool.{true, false};
+ghost use Rattle.rules.specs.Sector.{isRoot};
+ghost use Rattle.scan.specs.Scan.{sectors, allBlank, scanIn, pick, pickRoot, search, searchLog};
 ghost use Rattle.scan.specs.Look.{partOf, logOf, searchAt};
-ghost use Rattle.bucket.specs.Quests.{fits, takes, bucketQuest, logQuest};
+ghost use Rattle.bucket.specs.Places.{foundAt, dataFits, indexFits};
 ghost use Rattle.bucket.specs.Shapes.{Shape};
 
 mod picks;
 
-use rules::Entry;
 use rules::Head;
 use rules::Sector;
 use scan::Found;
 use scan::Way;
-
-// What a scan is after: the log, which holds root entries alone, or else a bucket, index or data, with its header;
-// the key on the way to which it is read, and the stamp as of which.
-pub struct Quest {
-    pub log: bool,
-    pub index: bool,
-    pub header: u32,
-    pub key: u32,
-    pub stamp: u32,
-}
 
 // The bytes from bucket b to the card's end, as a part of the card that was lent.
 pub fn from_bucket(card: &[u8], head: Head, b: u32) -> &[u8]
@@ -56,32 +47,52 @@ pub fn log_part(card: &[u8], head: Head) -> &[u8]
     &card[16..e]
 }
 
-// The sectors of a part from sector `from` on, `first` being the best of those before: a run of entries that may stand there, and then blanks.
-// What lies behind the first blank is only asked whether its bytes are all zero.
-fn scan_from(part: &[u8], n: usize, from: usize, count: usize, quest: Quest, first: Found) -> Found
-    requires { ⌜ length (now part) ≡ 16 * count ⌝ }
-    requires { ⌜ (from ≤ count) × (count ≤ 4096) ⌝ }
-    ensures { λ r. ⌜ r ≡ scanIn (fits quest) (takes quest) (sectors n (now (part .entry)) from (count - from)) first ⌝ }
+// The entry before sector `hit` of a part; none where `hit` is 0.
+fn entry_at(part: &[u8], hit: usize) -> Found
+    requires { ⌜ 16 * hit ≤ length (now part) ⌝ }
+    ensures { λ r. ⌜ r ≡ foundAt (now (part .entry)) hit ⌝ }
 {
-    let mut best = first;
-    let mut i = from;
+    if hit == 0 {
+        return Found::Nothing;
+    }
+    let e = sector::fields_at(part, hit - 1);
+    Found::Hit(e)
+}
+
+// Whether all sectors behind sector i of a part are blank: its bytes are asked at one go.
+fn blank_behind(part: &[u8], n: usize, count: usize, i: usize) -> bool
+    requires { ⌜ (length (now part) ≡ 16 * count) × (count ≤ 4096) × (i < count) ⌝ }
+    ensures { λ r. ⌜ r ≡ allBlank (sectors n (now (part .entry)) (i + 1) (count - (i + 1))) ⌝ }
+{
+    sector::all_zero(&part[16 * i + 16..])
+}
+
+// The sectors of a data bucket: a run of posts and strikes, no key below the header, and then blanks.
+// The place of the last copy of x is kept, and no entry is carried from turn to turn.
+fn scan_data(part: &[u8], n: usize, count: usize, header: u32, x: u32, t: u32) -> Found
+    requires { ⌜ (length (now part) ≡ 16 * count) × (count ≤ 4096) ⌝ }
+    ensures { λ r. ⌜ r ≡ scanIn (dataFits header) (pick false x t) (sectors n (now (part .entry)) 0 count) Found.Nothing ⌝ }
+{
+    let mut hit: usize = 0;
+    let mut i: usize = 0;
     let found = loop {
         if i == count {
-            break best;
+            break entry_at(part, hit);
         }
         let s = sector::at(part, n, i);
-        let Sector::Held(x) = s else {
+        let Sector::Held(e) = s else {
             let Sector::Blank = s else {
                 break Found::Damage;
             };
-            if sector::all_zero(&part[16 * i + 16..]) {
-                break best;
+            if blank_behind(part, n, count, i) {
+                break entry_at(part, hit);
             }
             break Found::Damage;
         };
-        if picks::fits(quest, x) {
-            best = picks::takes(quest, best, x);
+        if picks::data_fits(header, e) {
+            let copy = picks::is_copy(x, t, e);
             i += 1;
+            hit = picks::chosen(copy, i, hit);
         } else {
             break Found::Damage;
         }
@@ -89,28 +100,67 @@ fn scan_from(part: &[u8], n: usize, from: usize, count: usize, quest: Quest, fir
     found
 }
 
-fn bucket_quest(top: Entry, key: u32, stamp: u32) -> Quest
-    ensures { λ r. ⌜ r ≡ bucketQuest top key stamp ⌝ }
+// The sectors of an index bucket likewise: the largest key not above x and the place of its last copy are kept as one number.
+fn scan_index(part: &[u8], n: usize, count: usize, header: u32, x: u32, t: u32) -> Found
+    requires { ⌜ (length (now part) ≡ 16 * count) × (count ≤ 32) ⌝ }
+    ensures { λ r. ⌜ r ≡ scanIn (indexFits header) (pick true x t) (sectors n (now (part .entry)) 0 count) Found.Nothing ⌝ }
 {
-    Quest {
-        log: false,
-        index: top.kind == 3,
-        header: top.key,
-        key,
-        stamp,
-    }
+    let mut best: u64 = 0;
+    let mut i: usize = 0;
+    let found = loop {
+        if i == count {
+            break entry_at(part, picks::place_of(best));
+        }
+        let s = sector::at(part, n, i);
+        let Sector::Held(e) = s else {
+            let Sector::Blank = s else {
+                break Found::Damage;
+            };
+            if blank_behind(part, n, count, i) {
+                break entry_at(part, picks::place_of(best));
+            }
+            break Found::Damage;
+        };
+        if picks::index_fits(header, e) {
+            i += 1;
+            best = picks::larger(best, picks::rank(x, t, e, i));
+        } else {
+            break Found::Damage;
+        }
+    };
+    found
 }
 
-fn log_quest(stamp: u32) -> Quest
-    ensures { λ r. ⌜ r ≡ logQuest stamp ⌝ }
+// The sectors of the log likewise: the place of the last root entry.
+fn scan_log(part: &[u8], n: usize, count: usize, t: u32) -> Found
+    requires { ⌜ (length (now part) ≡ 16 * count) × (count ≤ 4096) ⌝ }
+    ensures { λ r. ⌜ r ≡ scanIn isRoot (pickRoot t) (sectors n (now (part .entry)) 0 count) Found.Nothing ⌝ }
 {
-    Quest {
-        log: true,
-        index: false,
-        header: 0,
-        key: 0,
-        stamp,
-    }
+    let mut hit: usize = 0;
+    let mut i: usize = 0;
+    let found = loop {
+        if i == count {
+            break entry_at(part, hit);
+        }
+        let s = sector::at(part, n, i);
+        let Sector::Held(e) = s else {
+            let Sector::Blank = s else {
+                break Found::Damage;
+            };
+            if blank_behind(part, n, count, i) {
+                break entry_at(part, hit);
+            }
+            break Found::Damage;
+        };
+        if e.kind == 4 {
+            let early = e.stamp <= t;
+            i += 1;
+            hit = picks::chosen(early, i, hit);
+        } else {
+            break Found::Damage;
+        }
+    };
+    found
 }
 
 // One pass over a bucket of m sectors, which `header` was followed to: its damage, its header, and the entry on the way to the key.
@@ -126,13 +176,12 @@ fn search_part(part: &[u8], n: usize, m: usize, header: u32, key: u32, stamp: u3
     if top.key != header {
         return Way::Lost;
     }
-    let quest = bucket_quest(top, key, stamp);
-    if picks::fits(quest, top) {
-        let best = picks::takes(quest, Found::Nothing, top);
-        let found = scan_from(part, n, 1, m, quest, best);
-        return picks::way_of(quest.index, found);
+    if top.kind == 3 {
+        let found = scan_index(part, n, m, header, key, stamp);
+        return picks::way_of(true, found);
     }
-    Way::Lost
+    let found = scan_data(part, n, m, header, key, stamp);
+    picks::way_of(false, found)
 }
 
 // The search of bucket b of the card.
@@ -151,6 +200,5 @@ pub fn find_root(card: &[u8], head: Head, stamp: u32) -> Found
     ensures { λ r. ⌜ r ≡ searchLog stamp (sectors (head .n) (now (card .entry)) 1 (head .n)) ⌝ }
 {
     let part = log_part(card, head);
-    let quest = log_quest(stamp);
-    scan_from(part, head.n, 0, head.n, quest, Found::Nothing)
+    scan_log(part, head.n, head.n, stamp)
 }

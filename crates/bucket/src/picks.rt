@@ -1,9 +1,10 @@
-// The decisions of the scan, on an entry at a time.
+// The decisions of the scans, on an entry at a time. Each gives a yes or no or a number, and what is kept is chosen by it.
 ghost use mathlib.Core.Path.{_≡_};
+ghost use Prim.Native.Nat.{_<_, _%_, max};
+ghost use Rattle.rules.specs.Plain.{if};
 ghost use Rattle.rules.specs.Sector.{isData};
-ghost use Rattle.scan.specs.Scan.{over, below, same, choose, wayOf};
-ghost use Rattle.bucket.specs.Quests.{kindFits, fits, prefers, takes};
-use crate::Quest;
+ghost use Rattle.scan.specs.Scan.{wayOf};
+ghost use Rattle.bucket.specs.Places.{dataFits, indexFits, isCopy, rank};
 use rules::Entry;
 use scan::Found;
 use scan::Way;
@@ -17,89 +18,79 @@ fn is_data(e: Entry) -> bool
     e.kind == 2
 }
 
-fn kind_fits(index: bool, e: Entry) -> bool
-    ensures { λ r. ⌜ r ≡ kindFits index e ⌝ }
+// Whether the entry may stand in a data bucket with this header.
+pub fn data_fits(header: u32, e: Entry) -> bool
+    ensures { λ r. ⌜ r ≡ dataFits header e ⌝ }
 {
-    if index {
-        return e.kind == 3;
-    }
-    is_data(e)
-}
-
-// Whether the entry may stand where the scan reads.
-pub fn fits(q: Quest, e: Entry) -> bool
-    ensures { λ r. ⌜ r ≡ fits q e ⌝ }
-{
-    if q.log {
-        return e.kind == 4;
-    }
-    if kind_fits(q.index, e) {
-        return q.header <= e.key;
+    if is_data(e) {
+        return header <= e.key;
     }
     false
 }
 
-// The larger key, of one key the later copy.
-fn over(best: Found, e: Entry) -> Found
-    ensures { λ r. ⌜ r ≡ over best e ⌝ }
+// Whether the entry may stand in an index bucket with this header.
+pub fn index_fits(header: u32, e: Entry) -> bool
+    ensures { λ r. ⌜ r ≡ indexFits header e ⌝ }
 {
-    match best {
-        Found::Damage => Found::Damage,
-        Found::Nothing => Found::Hit(e),
-        Found::Hit(o) => {
-            if o.key <= e.key {
-                return Found::Hit(e);
-            }
-            Found::Hit(o)
+    if e.kind == 3 {
+        return header <= e.key;
+    }
+    false
+}
+
+// Whether the entry is a copy of x stamped t or earlier.
+pub fn is_copy(x: u32, t: u32, e: Entry) -> bool
+    ensures { λ r. ⌜ r ≡ isCopy x t e ⌝ }
+{
+    if e.stamp <= t {
+        return e.key == x;
+    }
+    false
+}
+
+fn wide(x: u32) -> u64
+    ensures { λ r. ⌜ r ≡ x ⌝ }
+{
+    x as u64
+}
+
+// The key and the place of an entry as one number, where it is stamped t or earlier and its key is not above x; else 0.
+// Of two such numbers the larger has the larger key, and of one key the later place.
+pub fn rank(x: u32, t: u32, e: Entry, place: usize) -> u64
+    requires { ⌜ place < 64 ⌝ }
+    ensures { λ r. ⌜ r ≡ rank x t e place ⌝ }
+{
+    if e.stamp <= t {
+        if e.key <= x {
+            return 64 * wide(e.key) + place as u64;
         }
     }
+    0
 }
 
-fn below(x: u32, best: Found, e: Entry) -> Found
-    ensures { λ r. ⌜ r ≡ below x best e ⌝ }
+pub fn larger(a: u64, b: u64) -> u64
+    ensures { λ r. ⌜ r ≡ max a b ⌝ }
 {
-    if e.key <= x {
-        return over(best, e);
+    if a < b {
+        return b;
     }
-    best
+    a
 }
 
-fn same(x: u32, best: Found, e: Entry) -> Found
-    ensures { λ r. ⌜ r ≡ same x best e ⌝ }
+// The place in such a number.
+pub fn place_of(rank: u64) -> usize
+    ensures { λ r. ⌜ r ≡ rank % 64 ⌝ }
 {
-    if e.key == x {
-        return Found::Hit(e);
-    }
-    best
+    (rank % 64) as usize
 }
 
-// In an index bucket the largest key not above x, in a data bucket x itself.
-fn choose(index: bool, x: u32, best: Found, e: Entry) -> Found
-    ensures { λ r. ⌜ r ≡ choose index x best e ⌝ }
+pub fn chosen(yes: bool, a: usize, b: usize) -> usize
+    ensures { λ r. ⌜ r ≡ if yes a b ⌝ }
 {
-    if index {
-        return below(x, best, e);
+    if yes {
+        return a;
     }
-    same(x, best, e)
-}
-
-fn prefers(q: Quest, best: Found, e: Entry) -> Found
-    ensures { λ r. ⌜ r ≡ prefers q best e ⌝ }
-{
-    if q.log {
-        return Found::Hit(e);
-    }
-    choose(q.index, q.key, best, e)
-}
-
-// The entry against the best so far: one stamped after the quest's stamp is passed by.
-pub fn takes(q: Quest, best: Found, e: Entry) -> Found
-    ensures { λ r. ⌜ r ≡ takes q best e ⌝ }
-{
-    if e.stamp <= q.stamp {
-        return prefers(q, best, e);
-    }
-    best
+    b
 }
 
 // What a bucket's scan says of the way.

@@ -1,6 +1,6 @@
 -- The turns of the loops, as the code has the numbers: what each way out of a turn says of the whole scan.
 use mathlib.Core.Path.{_≡_, refl, ap, sym, _∙_, subst}
-use mathlib.Core.Bool.{Bool, true, false}
+use mathlib.Core.Bool.{Bool, false}
 use mathlib.Core.Logic.{⊎-elim}
 use Prim.Native.Nat.{ℕ, suc, _+_, _-_, _≤_, _<_}
 use native.Mathlib.Omega.{arith}
@@ -65,11 +65,6 @@ first-other-kind k x t Blank l p = refl
 first-other-kind k x t (Held e) l p = ⊎-elim (λ a. absurd (omega arith)) (λ c. absurd (omega arith)) p
 first-other-kind k x t Damaged l p = refl
 
-way-lost : (index : Bool) → Lost ≡ wayOf index Damage
-unfolding wayOf
-way-lost true = refl
-way-lost false = refl
-
 module _ (k x t n m : ℕ) (b : List ℕ) (s : Sector) (h : 4 ≤ m) (d : s ≡ decode n (sectorAt b 0)) where
   -- no entry at the start
   pub first-none : OneOf (0 ∷ 2 ∷ []) (tagOf the-type s) → Lost ≡ search k x t (sectors n b 0 m)
@@ -80,16 +75,11 @@ module _ (k x t n m : ℕ) (b : List ℕ) (s : Sector) (h : 4 ≤ m) (d : s ≡ 
   unfolding search
   first-other e is other = rw (sectors-first n m b h, ← d, is, ne-eqb (e .key) k other)
 
-  -- a header that may not stand in a bucket
-  pub first-bad : (e : Entry) → s ≡ Held e → e .key ≡ k → joins e e ≡ false → Lost ≡ search k x t (sectors n b 0 m)
-  unfolding search scanIn
-  first-bad e is same bad = rw (sectors-first n m b h, ← d, is, eq-eqb (e .key) k same, bad) (way-lost (isIndex e))
-
-  -- the scan from the next sector on, the header being weighed
-  pub first-starts : (e : Entry) → s ≡ Held e → e .key ≡ k → joins e e ≡ true
-      → wayOf (isIndex e) (scanIn (joins e) (pick (isIndex e) x t) (sectors n b 1 (m - 1)) (pick (isIndex e) x t Nothing e)) ≡ search k x t (sectors n b 0 m)
-  unfolding search scanIn
-  first-starts e is same good = rw (sectors-first n m b h, ← d, is, eq-eqb (e .key) k same, good)
+  -- the scan of the whole bucket
+  pub first-scan : (e : Entry) → s ≡ Held e → e .key ≡ k
+      → wayOf (isIndex e) (scanIn (joins e) (pick (isIndex e) x t) (sectors n b 0 m) Nothing) ≡ search k x t (sectors n b 0 m)
+  unfolding search
+  first-scan e is same = rw (sectors-first n m b h, ← d, is, eq-eqb (e .key) k same)
 
 -- a sector that is no entry ends each of next's passes
 pub weigh-other : (pick : Found → Entry → Found) (s : Sector) (l : List Sector) (best : Found) → OneOf (0 ∷ 2 ∷ []) (tagOf the-type s) → best ≡ weigh pick (s ∷ l) best

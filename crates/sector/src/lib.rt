@@ -4,7 +4,7 @@ ghost use Prim.Native.Nat.{_+_, _*_, _≤_};
 ghost use lib.ListN.{length};
 ghost use lib.Dec.{leb, eqb};
 ghost use Rattle.rules.specs.Plain.{_&_, zeros};
-ghost use Rattle.rules.specs.Sector.{word, decode, legal, sectorAt};
+ghost use Rattle.rules.specs.Sector.{word, decode, fields, legal, sectorAt};
 ghost use Rattle.scan.specs.Words.{entry, judged};
 use rules::Entry;
 use rules::Sector;
@@ -117,6 +117,30 @@ pub fn at(part: &[u8], n: usize, i: usize) -> Sector
     ensures { λ r. ⌜ r ≡ decode n (sectorAt (now (part .entry)) i) ⌝ }
 {
     decode(bytes(part, i), n)
+}
+
+fn wide(x: u8) -> u32
+    ensures { λ r. ⌜ r ≡ x ⌝ }
+{
+    x as u32
+}
+
+// The four fields of sector i of a part, which is not judged.
+pub fn fields_at(part: &[u8], i: usize) -> Entry
+    requires { ⌜ 16 * i + 16 ≤ length (now part) ⌝ }
+    ensures { λ r. ⌜ r ≡ fields (sectorAt (now (part .entry)) i) ⌝ }
+{
+    let s = bytes(part, i);
+    let kind = wide(s[0]);
+    let key = read_word(s, 4);
+    let stamp = read_word(s, 8);
+    let value = read_word(s, 12);
+    Entry {
+        kind,
+        key,
+        stamp,
+        value,
+    }
 }
 
 // The larger of two bytes: zero only where both are.
