@@ -1,6 +1,7 @@
-// The card for C and Rust: the six calls and the scroll's records, exported. Each takes every input, and its contract is the rule.
+// The card for C and Rust: the six calls, the scroll's records and the card's state, exported. Each takes every input, and its contract is the rule.
 use rules::Answer;
 use rules::Digits;
+use rules::State;
 use scroll::Tally;
 ghost use mathlib.Core.Path.{_≡_};
 ghost use Prim.Native.Nat.{_/_};
@@ -8,6 +9,7 @@ ghost use lib.ListN.{length};
 ghost use Rattle.rules.specs.Look.{look};
 ghost use Rattle.rules.specs.Next.{next};
 ghost use Rattle.rules.specs.Panel.{panel};
+ghost use Rattle.rules.specs.State.{state};
 ghost use Rattle.rules.specs.Format.{format};
 ghost use Rattle.rules.specs.Write.{planAnswer, planCard, post, strike};
 ghost use Rattle.writer.specs.Rows.{puts};
@@ -63,6 +65,13 @@ pub extern "C" fn card_records(card: &[u8], bib: u32, at: u32, out: &mut [u8]) -
     ensures { λ _. ⌜ now (out .exit) ≡ puts (now (out .entry)) 0 (recordsOf (now (card .entry)) at (length (now (out .entry)) / 16) bib .records) ⌝ }
 {
     scroll::records(card, bib, at, out)
+}
+
+#[no_mangle]
+pub extern "C" fn card_state(card: &[u8]) -> State
+    ensures { λ r. ⌜ r ≡ state (now (card .entry)) ⌝ }
+{
+    state::of_card(card)
 }
 
 #[no_mangle]

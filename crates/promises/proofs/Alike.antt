@@ -117,7 +117,7 @@ looks-alike h c g begin s ke t le es fs d b p q agree x lt =
     let u = one .2 x lt in
     let v = two .2 x lt in
     let meet : u .0 ≡ v .0 = some-inj (sym (u .2) ∙ ap (λ z. walk h z t x) same ∙ v .2) in
-    look-alike h d b (since-keeps h c g begin s ke es d p .1 .state .head) (since-keeps h c g begin s ke fs b q .1 .state .head) t x (u .1) (v .1) (u .3) (v .3)
+    look-alike h d b (since-keeps h c g begin s ke es d p .0 .state .head) (since-keeps h c g begin s ke fs b q .0 .state .head) t x (u .1) (v .1) (u .3) (v .3)
     (sym (alike-length t (u .0) (u .1) (u .4)) ∙ ap length meet ∙ alike-length t (v .0) (v .1) (v .4))
     (sym (alike-data t (u .0) (u .1) (u .4)) ∙ ap (λ z. left t (dataOf z)) meet ∙ alike-data t (v .0) (v .1) (v .4))
 

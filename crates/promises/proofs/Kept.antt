@@ -6,6 +6,7 @@ use Rattle.promises.proofs.Overwritten.{nothing-is-overwritten}
 use Rattle.promises.proofs.Taken.{post-is-taken, strike-is-taken}
 use Rattle.promises.proofs.Settled.{calls-are-settled, panel-is-settled, refused-means-unchanged, reads-change-nothing}
 use Rattle.promises.proofs.Scrolled.{records-are-settled, scroll-is-settled, scroll-says-again}
+use Rattle.promises.proofs.Stated.{state-tells-the-truth, state-tells-the-next, state-is-settled}
 
 pub all-kept : Promises
 all-kept =
@@ -24,4 +25,7 @@ all-kept =
       records-are-settled = records-are-settled;
       scroll-is-settled = scroll-is-settled;
       scroll-says-again = scroll-says-again;
+      state-tells-the-truth = state-tells-the-truth;
+      state-tells-the-next = state-tells-the-next;
+      state-is-settled = state-is-settled;
     }

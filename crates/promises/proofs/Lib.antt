@@ -7,4 +7,5 @@ pub mod Overwritten
 pub mod Taken
 pub mod Settled
 pub mod Scrolled
+pub mod Stated
 pub mod Kept

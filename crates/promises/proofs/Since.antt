@@ -23,6 +23,7 @@ use Rattle.laws.proofs.Zeros.{zeros-get, zero-sector}
 use Rattle.laws.proofs.Entries.{Asks, post-asks, strike-asks}
 use Rattle.tree.proofs.Keeps.{Keeps, more, keeps-step}
 use Rattle.promises.specs.Calls.{Sized, AllSized, cardAfter, ifZero, taken, accepted, Above}
+use Rattle.promises.specs.Reading.{lastStamp}
 use Rattle.promises.proofs.Numbers.{Numbered, plan-numbered}
 
 -- each entry in turn is accepted, and the last of the cards is d
@@ -38,11 +39,12 @@ after g (e ∷ es) = after (more g e) es
 -- the last card, with the stamp of its newest entry
 pub since-keeps : (h : Head) (c : List ℕ) (g : ℕ → ℕ → Option Entry) (begin s : ℕ) → Keeps h c g begin s → (es : List Entry) (d : List ℕ)
     → Since c es d
-    → (last : ℕ) × Keeps h d (after g es) begin last × ((at : ℕ) → s < at → Above at es → last < at)
-since-keeps h c g begin s ke [] d q = (s, subst (λ z. Keeps h z g begin s) q ke, λ at lt up. lt)
+    → Keeps h d (after g es) begin (lastStamp s es) × ((at : ℕ) → s < at → Above at es → lastStamp s es < at)
+unfolding lastStamp
+since-keeps h c g begin s ke [] d q = (subst (λ z. Keeps h z g begin s) q ke, λ at lt up. lt)
 since-keeps h c g begin s ke (e ∷ es) d q =
     let r = since-keeps h (q .0) (more g e) begin (e .stamp) (keeps-step h c g begin s ke e (q .1) (q .0) (q .2)) es d (q .3) in
-    (r .0, r .1, λ at lt up. r .2 at (up .0) (up .1))
+    (r .0, λ at lt up. r .1 at (up .0) (up .1))
 
 -- a card with a head is not blank, so that a format of it is refused
 no-head : (c : List ℕ) (h : Head) → headOf c ≡ some h → zeros c ≡ true → ⊥

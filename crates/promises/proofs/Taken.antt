@@ -27,7 +27,7 @@ use Rattle.tree.proofs.Tree.{some-inj}
 use Rattle.tree.proofs.Begin.{nothing}
 use Rattle.promises.specs.Promises.{TakenUnlessFull, PostIsTaken, StrikeIsTaken}
 use Rattle.promises.specs.Calls.{cardAfter, accepted, needed, remaining}
-use Rattle.promises.specs.Reading.{standsAsOf}
+use Rattle.promises.specs.Reading.{standsAsOf, lastStamp}
 use Rattle.promises.proofs.Reading.{after-plain}
 use Rattle.promises.proofs.Truth.{calls-keep}
 use Rattle.promises.proofs.Since.{after}
@@ -105,13 +105,14 @@ unfolding called planned post
 post-is-taken h card f calls s bib at time b1 a1 z up =
     let k = calls-keep h card f calls s in
     let g = after (λ t. nothing) (accepted card calls) in
+    let last = lastStamp 0 (accepted card calls) in
     let d = cardAfter card calls in
     let e = postEntry bib at time in
     let asks = post-asks bib at time (z .0) (z .1) (z .2) in
-    let above = k .2 at a1 up in
+    let above = k .1 at a1 up in
     plan-answers h d e (postCall bib at time) (plan d e) refl (subst (PlanTaken h d e)
-    (sym (plan-is h d g 0 (k .0) (k .1) e asks b1 above ∙ post-plan (isNone (g latest bib)) bib at time (planOn h d e (write-walk h d g 0 (k .0) (k .1) e asks .0))))
-    (on-taken h d g 0 (k .0) (k .1) e asks b1 above))
+    (sym (plan-is h d g 0 last (k .0) e asks b1 above ∙ post-plan (isNone (g latest bib)) bib at time (planOn h d e (write-walk h d g 0 last (k .0) e asks .0))))
+    (on-taken h d g 0 last (k .0) e asks b1 above))
 
 -- a strike where o stands
 struck : (h : Head) (card : List ℕ) (e : Entry) (o : Option Entry) (k : Call) (q p : Plan) → called card k .answer ≡ planAnswer q → PlanTaken h card e p
@@ -127,11 +128,12 @@ strike-is-taken h card f calls s bib at b1 a1 z up =
     let k = calls-keep h card f calls s in
     let es = accepted card calls in
     let g = after (λ t. nothing) es in
+    let last = lastStamp 0 es in
     let d = cardAfter card calls in
     let e = strikeEntry bib at in
     let asks = strike-asks bib at (z .0) (z .1) in
-    let above = k .2 at a1 up in
-    let on = planOn h d e (write-walk h d g 0 (k .0) (k .1) e asks .0) in
-    struck h d e (standsAsOf latest bib es) (strikeCall bib at) (plan d e) on refl (on-taken h d g 0 (k .0) (k .1) e asks b1 above)
-    (plan-is h d g 0 (k .0) (k .1) e asks b1 above ∙ strike-plan (isNone (g latest bib)) bib at on
+    let above = k .1 at a1 up in
+    let on = planOn h d e (write-walk h d g 0 last (k .0) e asks .0) in
+    struck h d e (standsAsOf latest bib es) (strikeCall bib at) (plan d e) on refl (on-taken h d g 0 last (k .0) e asks b1 above)
+    (plan-is h d g 0 last (k .0) e asks b1 above ∙ strike-plan (isNone (g latest bib)) bib at on
     ∙ ap (λ o. refuseIf (isNone o) 5 on) (after-plain es latest bib))

@@ -23,7 +23,7 @@ use Rattle.tree.proofs.Hops.{given}
 use Rattle.tree.proofs.Tree.{some-inj}
 use Rattle.promises.specs.Promises.{LookTellsTheTruth, ReadsCountThePath, Smallest, NextTellsTheTruth}
 use Rattle.promises.specs.Calls.{Formatted, AllSized, cardAfter, Above, accepted}
-use Rattle.promises.specs.Reading.{standsAsOf}
+use Rattle.promises.specs.Reading.{standsAsOf, lastStamp}
 use Rattle.promises.proofs.Numbers.{formatted-plan}
 use Rattle.promises.proofs.Reading.{after-plain}
 use Rattle.promises.proofs.Since.{since-keeps, calls-since, after}
@@ -37,7 +37,8 @@ formatted-keeps h card f =
 
 -- the card after the calls answers for the entries accepted
 pub calls-keep : (h : Head) (card : List ℕ) → Formatted h card → (calls : List Call) → AllSized calls
-    → (last : ℕ) × Keeps h (cardAfter card calls) (after (λ t. nothing) (accepted card calls)) 0 last × ((at : ℕ) → 0 < at → Above at (accepted card calls) → last < at)
+    → Keeps h (cardAfter card calls) (after (λ t. nothing) (accepted card calls)) 0 (lastStamp 0 (accepted card calls))
+    × ((at : ℕ) → 0 < at → Above at (accepted card calls) → lastStamp 0 (accepted card calls) < at)
 calls-keep h card f calls s =
     let ke = formatted-keeps h card f in
     since-keeps h card (λ t. nothing) 0 0 ke (accepted card calls) (cardAfter card calls) (calls-since h card (λ t. nothing) 0 0 ke calls s)
@@ -60,7 +61,7 @@ pub look-tells-the-truth : LookTellsTheTruth
 look-tells-the-truth h card f calls s bib t lo hi =
     let k = calls-keep h card f calls s in
     let es = accepted card calls in
-    let l = keeps-look h (cardAfter card calls) es (k .0) (k .1) bib t lo hi in
+    let l = keeps-look h (cardAfter card calls) es (lastStamp 0 es) (k .0) bib t lo hi in
     let n : look (cardAfter card calls) bib t .reads ≡ length (l .0) = ap (λ a. a .reads) (l .2) ∙ sheet-reads bib (length (l .0)) (standsAsOf t bib es) in
     l .2 ∙ ap (λ r. sheet bib r (standsAsOf t bib es)) (sym n)
 
@@ -68,7 +69,7 @@ pub reads-count-the-path : ReadsCountThePath
 reads-count-the-path h card f calls s bib t lo hi =
     let k = calls-keep h card f calls s in
     let es = accepted card calls in
-    let l = keeps-look h (cardAfter card calls) es (k .0) (k .1) bib t lo hi in
+    let l = keeps-look h (cardAfter card calls) es (lastStamp 0 es) (k .0) bib t lo hi in
     (l .0, l .1, ap (λ a. a .reads) (l .2) ∙ sheet-reads bib (length (l .0)) (standsAsOf t bib es))
 
 given-smallest : (g : ℕ → Option Entry) (k : ℕ) (r : Option Entry) → Found g k 0 4294967296 r → Smallest g k (given r)
@@ -81,7 +82,7 @@ pub calls-next : (h : Head) (card : List ℕ) → Formatted h card → (calls : 
 calls-next h card f calls s k t lt =
     let es = accepted card calls in
     let kept = calls-keep h card f calls s in
-    let n = keeps-next h (cardAfter card calls) (after (λ z. nothing) es) 0 (kept .0) (kept .1) k t (omega arith) lt in
+    let n = keeps-next h (cardAfter card calls) (after (λ z. nothing) es) 0 (lastStamp 0 es) (kept .0) k t (omega arith) lt in
     (n .0, n .1, found-ext (after (λ z. nothing) es t) (λ x. standsAsOf t x es) k 0 4294967296 (n .0) (after-plain es t) (n .2))
 
 pub next-tells-the-truth : NextTellsTheTruth

@@ -11,13 +11,15 @@ use Rattle.rules.specs.declared.Entry.{Entry}
 use Rattle.rules.specs.declared.Head.{Head}
 use Rattle.rules.specs.declared.Answer.{Answer}
 use Rattle.rules.specs.declared.Digits.{Digits}
+use Rattle.rules.specs.declared.State.{State}
 use Rattle.rules.specs.Plain.{zeros}
 use Rattle.rules.specs.Sector.{sectorAt, put, postEntry, strikeEntry}
 use Rattle.rules.specs.Walk.{Visit, walk}
 use Rattle.rules.specs.Answers.{answer, refused, sheet, ended}
 use Rattle.rules.specs.Look.{look}
 use Rattle.rules.specs.Next.{next}
-use Rattle.rules.specs.Write.{latest}
+use Rattle.rules.specs.Write.{latest, topUsed}
+use Rattle.rules.specs.State.{stateOf, state}
 use Rattle.rules.specs.Panel.{panel}
 use Rattle.rules.specs.Calls.{Call, postCall, strikeCall, lookCall, nextCall, Done, called}
 use Rattle.writer.specs.Rows.{puts}
@@ -26,7 +28,7 @@ use Rattle.scroll.specs.declared.Scroll.{Scroll}
 use Rattle.scroll.specs.Records.{recordsOf, tallyOf}
 use Rattle.scroll.specs.Scroll.{after, stepOf}
 use Rattle.promises.specs.Calls.{Accepted, Formatted, Sized, AllSized, cardAfter, accepted, Above, needed, remaining}
-use Rattle.promises.specs.Reading.{upTo, standsAsOf}
+use Rattle.promises.specs.Reading.{upTo, standsAsOf, lastStamp}
 
 -- 1. A look answers 0, the bib, and the stamp and time of the last accepted entry for it stamped t or earlier if that is a post,
 -- else stamp 0 and time 0. It never answers damage.
@@ -168,6 +170,23 @@ ScrollIsSettled =
 abbrev pub ScrollSaysAgain : Type 0
 ScrollSaysAgain = (s : Scroll) → stepOf s .bib ≡ 0 → stepOf (after s (stepOf s)) ≡ stepOf s
 
+-- 10. A card of ours says of itself its head's four numbers, that it begins with 0, the stamp of the entry accepted last, or 0,
+-- and the highest bucket used.
+abbrev pub StateTellsTheTruth : Type 0
+StateTellsTheTruth =
+    (h : Head) (card : List ℕ) → Formatted h card → (calls : List Call) → AllSized calls
+    → state (cardAfter card calls) ≡ stateOf h (lastStamp 0 (accepted card calls)) (topUsed h (cardAfter card calls) (h .n))
+
+-- What a state tells decides: a stamp is refused with 3 exactly where it is not above the last.
+abbrev pub StateTellsTheNext : Type 0
+StateTellsTheNext =
+    (card : List ℕ) → state card .code ≡ 0 → (bib at time : ℕ) → 1 ≤ bib
+    → (at ≤ state card .last → called card (postCall bib at time) .answer .code ≡ 3)
+    × (state card .last < at → called card (postCall bib at time) .answer .code ≡ 3 → ⊥)
+
+abbrev pub StateIsSettled : Type 0
+StateIsSettled = (card : List ℕ) (one two : State) → one ≡ state card → two ≡ state card → one ≡ two
+
 -- All that is promised. `promised` in src/ asks for a term of it, so that a promise without its proof fails the check.
 pub record Promises : Type 0 where
   pub look-tells-the-truth : LookTellsTheTruth
@@ -184,3 +203,6 @@ pub record Promises : Type 0 where
   pub records-are-settled : RecordsAreSettled
   pub scroll-is-settled : ScrollIsSettled
   pub scroll-says-again : ScrollSaysAgain
+  pub state-tells-the-truth : StateTellsTheTruth
+  pub state-tells-the-next : StateTellsTheNext
+  pub state-is-settled : StateIsSettled

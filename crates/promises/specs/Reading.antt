@@ -29,3 +29,8 @@ ifPost (some e) = elim (eqb (e .kind) 1) [ true ↦ some e | false ↦ none ]
 -- what stands for a bib as of t: its last entry stamped t or earlier, if that is a post
 unfoldable pub standsAsOf : ℕ → ℕ → List Entry → Option Entry
 standsAsOf t bib es = ifPost (lastFor bib (upTo t es))
+
+-- the stamp of the last entry, or s where there is none
+unfoldable pub lastStamp : ℕ → List Entry → ℕ
+lastStamp s [] = s
+lastStamp s (e ∷ es) = lastStamp (e .stamp) es

@@ -9,16 +9,18 @@ use Rattle.rules.specs.declared.Sector.{Sector}
 use Rattle.rules.specs.declared.Sector.the-variants.{Blank, Held, Damaged}
 use Rattle.rules.specs.declared.Answer.{Answer}
 use Rattle.rules.specs.declared.Digits.{Digits}
+use Rattle.rules.specs.declared.State.{State}
 use Rattle.rules.specs.Plain.{_&_}
 use Rattle.rules.specs.Sector.{sectorAt, put, decode}
 use Rattle.rules.specs.Layout.{headOf, base}
 use Rattle.rules.specs.Write.{topUsed}
+use Rattle.rules.specs.State.{state}
 use Rattle.rules.specs.Panel.{panel}
 use Rattle.rules.specs.Calls.{Call}
 use Rattle.rules.specs.Bench.{benchCall}
 
 -- no card any more; a call and its answer; other bytes in a sector; a call and its answer on the card with other bytes in a sector;
--- a bucket and its m sectors; the log's first sectors; a sector's bytes; the highest bucket written; a time, a field, the number and places it gives
+-- a bucket and its m sectors; the log's first sectors; a sector's bytes; the highest bucket written; the state's eight numbers; a time, a field, the number and places it gives
 pub data Line : Type 0 where
   anew : Line
   says : Call → Answer → Line
@@ -28,6 +30,7 @@ pub data Line : Type 0 where
   logs : List Sector → Line
   bytes : ℕ → List ℕ → Line
   used : ℕ → Line
+  tells : List ℕ → Line
   shows : ℕ → ℕ → ℕ → List ℕ → Line
 
 unfoldable pub same : List ℕ → List ℕ → Bool
@@ -72,6 +75,9 @@ usedIn card (some h) k = eqb (topUsed h card (h .n)) k
 unfoldable pub sameDigits : Digits → ℕ → List ℕ → Bool
 sameDigits d c ps = eqb (d .code) c & same (d .places) ps
 
+unfoldable pub numbersOf : State → List ℕ
+numbersOf s = s .code ∷ s .buckets ∷ s .sectors ∷ s .td ∷ s .ti ∷ s .begin ∷ s .last ∷ s .used ∷ []
+
 unfoldable pub right : List ℕ → Line → Bool
 right card anew = true
 right card (says k a) = sameAnswer (benchCall card k .answer) a
@@ -81,6 +87,7 @@ right card (holds b ss) = holdsIn card (headOf card) b ss
 right card (logs ss) = logsIn card (headOf card) ss
 right card (bytes i bs) = same (sectorAt card i) bs
 right card (used k) = usedIn card (headOf card) k
+right card (tells ns) = same (numbersOf (state card)) ns
 right card (shows time field c ps) = sameDigits (panel time field) c ps
 
 unfoldable pub cardNext : List ℕ → Line → List ℕ
@@ -92,6 +99,7 @@ cardNext card (holds b ss) = card
 cardNext card (logs ss) = card
 cardNext card (bytes i bs) = card
 cardNext card (used k) = card
+cardNext card (tells ns) = card
 cardNext card (shows time field c ps) = card
 
 unfoldable pub passes : List ℕ → List Line → Bool

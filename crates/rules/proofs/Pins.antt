@@ -9,7 +9,7 @@ use Rattle.rules.specs.declared.Sector.the-variants.{Blank, Held}
 use Rattle.rules.specs.Sector.{postEntry, strikeEntry, indexEntry, rootEntry}
 use Rattle.rules.specs.Answers.{answer, refused}
 use Rattle.rules.specs.Calls.{Call, formatCall, postCall, strikeCall, lookCall, nextCall}
-use Rattle.rules.proofs.Lines.{Line, anew, says, writes, spoilt, holds, logs, bytes, used, shows, passes}
+use Rattle.rules.proofs.Lines.{Line, anew, says, writes, spoilt, holds, logs, bytes, used, tells, shows, passes}
 
 abbrev ok : Call → Line
 ok k = says k (answer 0 0 0 0 0)
@@ -55,7 +55,9 @@ two =
     ∷ says (postCall 0 0 0) (refused 1)
     ∷ says (lookCall 0 0) (refused 1)
     ∷ says (nextCall 0 0) (refused 1)
+    ∷ tells (1 ∷ 0 ∷ 0 ∷ 0 ∷ 0 ∷ 0 ∷ 0 ∷ 0 ∷ [])
     ∷ ok (formatCall 2 4 3 4)
+    ∷ tells (0 ∷ 2 ∷ 4 ∷ 3 ∷ 4 ∷ 0 ∷ 0 ∷ 2 ∷ [])
     ∷ bytes 0 (head 4 3 4 2)
     ∷ bytes 1 (raw 4 0 0 0 1)
     ∷ bytes 2 (raw 0 0 0 0 0)
@@ -84,6 +86,7 @@ two =
     ∷ says (postCall 2 772 1) (refused 3)
     ∷ ok (postCall 2 773 1)
     ∷ ok (postCall 3 774 1)
+    ∷ tells (0 ∷ 2 ∷ 4 ∷ 3 ∷ 4 ∷ 0 ∷ 774 ∷ 2 ∷ [])
     -- 3 ahead of 6, and 5 ahead of 6, on a card that is full
     ∷ says (postCall 3 774 1) (refused 3)
     ∷ says (strikeCall 4 775) (refused 5)
@@ -197,8 +200,10 @@ abbrev passedOver : List Line
 passedOver =
     anew
     ∷ ok (formatCall 8 4 3 4)
-    ∷ writes 32 (raw 0 0 0 0 1)
+    ∷ writes 32 (raw 0 0 0 9 1)
     ∷ used 6
+    -- a stamp beside kind 0 is none, one of any other kind is
+    ∷ tells (0 ∷ 8 ∷ 4 ∷ 3 ∷ 4 ∷ 0 ∷ 0 ∷ 6 ∷ [])
     ∷ ok (postCall 1 1 1)
     ∷ ok (postCall 1 2 2)
     ∷ ok (postCall 1 3 3)

@@ -9,6 +9,7 @@ pub mod Next
 pub mod Rewrite
 pub mod Write
 pub mod Format
+pub mod State
 pub mod Calls
 pub mod Panel
 pub mod Bench

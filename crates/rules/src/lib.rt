@@ -39,3 +39,16 @@ pub struct Digits {
     pub code: u32,
     pub places: [u8; 6],
 }
+
+// What a card says of itself: its geometry, its beginning, the largest stamp of its buckets and the highest bucket used.
+#[repr(C)]
+pub struct State {
+    pub code: u32,
+    pub buckets: u32,
+    pub sectors: u32,
+    pub td: u32,
+    pub ti: u32,
+    pub begin: u32,
+    pub last: u32,
+    pub used: u32,
+}

@@ -1,0 +1,74 @@
+-- What a card says of itself.
+use mathlib.Core.Path.{_≡_, refl, ap, sym, _∙_}
+use mathlib.Core.Bool.{true, false, Bool}
+use mathlib.Core.List.{List}
+use mathlib.Core.Option.{Option, none, some}
+use Prim.Native.Nat.{ℕ, _≤_, _<_}
+use native.Mathlib.Omega.{arith}
+use lib.Dec.{leb}
+use borrow.Author.Tests.{le-leb, lt-leb, ne-eqb}
+use Rattle.rules.specs.declared.Entry.{Entry}
+use Rattle.rules.specs.declared.Head.{Head}
+use Rattle.rules.specs.Answers.{refused}
+use Rattle.rules.specs.Layout.{headOf}
+use Rattle.rules.specs.Sector.{postEntry}
+use Rattle.rules.specs.Walk.{Visit, walk}
+use Rattle.rules.specs.Write.{Plan, refuse, accept, refuseIf, planAnswer, planOn, planAt, planFor, plan, post, finish, checked, stampOn, topUsed, latest}
+use Rattle.rules.specs.State.{stateOf, stateIn, state}
+use Rattle.rules.specs.Calls.{called, planned, postCall}
+use Rattle.promises.specs.Calls.{cardAfter, accepted}
+use Rattle.promises.specs.Reading.{lastStamp}
+use Rattle.promises.specs.Promises.{StateTellsTheTruth, StateTellsTheNext, StateIsSettled}
+use Rattle.promises.proofs.Truth.{calls-keep}
+
+with-head : (card : List ℕ) (h : Head) → headOf card ≡ some h → state card ≡ stateOf h (stampOn h card) (topUsed h card (h .n))
+unfolding state stateIn
+with-head card h q = rw q
+
+pub state-tells-the-truth : StateTellsTheTruth
+state-tells-the-truth h card f calls s =
+    let ke = calls-keep h card f calls s .0 in
+    let d = cardAfter card calls in
+    with-head d h (ke .state .head) ∙ ap (λ (last : ℕ). stateOf h last (topUsed h d (h .n))) (ke .top)
+
+-- past the stamp no plan is refused with 3
+if-not-three : (b : Bool) (c : ℕ) (p : Plan) → (c ≡ 3 → ⊥) → (planAnswer p .code ≡ 3 → ⊥) → planAnswer (refuseIf b c p) .code ≡ 3 → ⊥
+unfolding refuseIf planAnswer refused
+if-not-three true c p n q z = n z
+if-not-three false c p n q z = q z
+
+at-not-three : (h : Head) (card : List ℕ) (e : Entry) (w : Option (List Visit)) → planAnswer (planAt h card e w) .code ≡ 3 → ⊥
+unfolding planAt planOn finish checked planAnswer refused
+at-not-three h card e none = λ z. omega arith
+at-not-three h card e (some p) = if-not-three _ 5 _ (λ z. omega arith) (if-not-three _ 6 _ (λ z. omega arith) (λ z. omega arith))
+
+-- a post on a card with a head
+module _ (card : List ℕ) (h : Head) (q : headOf card ≡ some h) (e : Entry) (key : 1 ≤ e .key) where
+  plan-is : plan card e ≡ refuseIf (leb (e .stamp) (stampOn h card)) 3 (planAt h card e (walk h card latest (e .key)))
+  unfolding plan planFor refuseIf
+  plan-is = rw (q, ne-eqb (e .key) 0 (λ z. omega arith))
+
+  three : e .stamp ≤ stampOn h card → planAnswer (plan card e) .code ≡ 3
+  unfolding refuseIf planAnswer refused
+  three le = rw (plan-is, le-leb (e .stamp) (stampOn h card) le)
+
+  not-three : stampOn h card < e .stamp → planAnswer (plan card e) .code ≡ 3 → ⊥
+  unfolding refuseIf
+  not-three lt = rw (plan-is, lt-leb (e .stamp) (stampOn h card) lt) (at-not-three h card e (walk h card latest (e .key)))
+
+abbrev Tells : List ℕ → ℕ → ℕ → ℕ → ℕ → Type 0
+Tells card bib at time last =
+    (at ≤ last → called card (postCall bib at time) .answer .code ≡ 3) × (last < at → called card (postCall bib at time) .answer .code ≡ 3 → ⊥)
+
+in-tells : (card : List ℕ) (o : Option Head) → headOf card ≡ o → stateIn card o .code ≡ 0 → (bib at time : ℕ) → 1 ≤ bib
+    → Tells card bib at time (stateIn card o .last)
+unfolding stateIn called planned post
+in-tells card none q z bib at time lo = absurd (omega arith)
+in-tells card (some h) q z bib at time lo = (three card h q (postEntry bib at time) lo, not-three card h q (postEntry bib at time) lo)
+
+pub state-tells-the-next : StateTellsTheNext
+unfolding state
+state-tells-the-next card z bib at time lo = in-tells card (headOf card) refl z bib at time lo
+
+pub state-is-settled : StateIsSettled
+state-is-settled card one two a b = a ∙ sym b
