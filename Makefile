@@ -5,16 +5,21 @@ SHELL := /bin/bash
 # Where `make install` puts the library.
 PREFIX ?= /usr/local
 ARCHIVE := target/staticlib/libcard.a
+BENCH := target/bin/bench
+SOURCES := crates.txt $(shell find crates -name '*.rt' -o -name '*.antt')
 
 # The sample session through the bench program, each line with its answer.
-run:
+run: $(BENCH)
 	@scripts/run-sample
 
 # The gate. Its last line is rt's own count.
 test:
 	@scripts/gate
 
-$(ARCHIVE): crates.txt $(shell find crates -name '*.rt' -o -name '*.antt')
+$(BENCH): programs/bench.c $(SOURCES)
+	@scripts/build-bench
+
+$(ARCHIVE): $(SOURCES)
 	@echo "Proving the library and making its archive; the first time takes minutes."
 	@scripts/quietly rt staticlib card
 

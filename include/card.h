@@ -209,8 +209,8 @@ struct card_answer card_next(const uint8_t *card, size_t len, uint32_t bib, uint
  * bytes 1 to 3 are 0, and bib, stamp and time follow, each of 4 bytes, low first. The bytes behind
  * the last record stay as they were. `out` is not null, its bytes can be read and written, and none
  * of them is the card's.
- * Refused as card_next is, where a refusal is met before `out` is full; then no byte of `out` is
- * written.
+ * Refused: 1, head or length breaks the layout, also where `out` has no room for a record; 4, damage
+ * met before `out` is full. Then no byte of `out` is written.
  * Leaves the card as it was. */
 struct card_tally card_records(const uint8_t *card, size_t len, uint32_t bib, uint32_t at,
                                uint8_t *out, size_t room);

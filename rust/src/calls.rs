@@ -106,7 +106,8 @@ pub fn next(card: &[u8], bib: u32, at: u32) -> Result<Option<Record>, Refusal> {
 /// The records that [`next`] gives one after the other above `bib`, as many as there are and as fit into
 /// `out`, in one call. They lie at its start as post sectors of 16 bytes each; the bytes behind them stay.
 ///
-/// Refused as [`next`] is, where a refusal is met before `out` is full; then `out` is as it was.
+/// Refused as [`next`] is: a broken head also where `out` has no room for a record, damage where it is met
+/// before `out` is full. Then `out` is as it was.
 ///
 /// ```
 /// # use card::{Refusal, Shape};

@@ -70,8 +70,12 @@ fn above_every_bib() {
     assert_eq!((broken.next(), broken.next(), broken.next()), (Some(Err(Refusal::Layout)), None, None));
 }
 
-/// What a row of records answers and leaves in the buffer, by the second implementation's next.
+/// What a row of records answers and leaves in the buffer, by the second implementation's next. The head is
+/// asked first, since a buffer without room asks for no record.
 fn row(card: &[u8], bib: u32, at: u32, out: &mut [u8]) -> Tally {
+    if card_model::state(card).code == 1 {
+        return Tally { code: 1, count: 0 };
+    }
     let (mut last, mut laid) = (bib, Vec::new());
     for _ in 0..out.len() / 16 {
         let answer = card_model::next(card, last, at);
@@ -125,6 +129,18 @@ fn in_a_row_from_every_bib() {
                 compared(&bytes, bib, at, &mut vec![0x5a; room]);
             }
         }
+    }
+}
+
+/// A broken head is told whatever the room.
+#[test]
+fn in_a_row_on_no_card() {
+    let (bytes, _) = grown();
+    for room in [0, 1, 15, 16, 160] {
+        for broken in [&bytes[..0], &bytes[..15], &bytes[1..], &bytes[..bytes.len() - 1]] {
+            assert_eq!(compared(broken, 0, 200, &mut vec![0x5a; room]), Tally { code: 1, count: 0 });
+        }
+        assert_eq!(compared(&bytes, u32::MAX, 200, &mut vec![0x5a; room]), Tally { code: 0, count: 0 });
     }
 }
 

@@ -1,4 +1,4 @@
 // The bench program, on lines that are not of its grammar and calls that are refused.
 fn main() {
-    serve::run();
+    let _all = serve::run();
 }

@@ -2,6 +2,7 @@
 use libc::STDIN_FILENO;
 use libc::STDOUT_FILENO;
 ghost use mathlib.Core.Path.{_≡_};
+ghost use mathlib.Core.Bool.{true};
 ghost use Prim.Native.Nat.{_≤_};
 ghost use lib.ListN.{length, take};
 ghost use Rattle.rules.specs.Bench.{benchLine, answerLine};
@@ -62,21 +63,36 @@ fn byte(room: &mut [u8], card: &mut [u8], out: &mut [u8], s: State, b: u8) -> St
     }
 }
 
-// The bytes of one read. An answer is written before the next byte is looked at.
-fn chunk(got: &[u8], room: &mut [u8], card: &mut [u8], out: &mut [u8], s: State) -> State
+// After some of the input: where it stands, and whether every answer so far could be written.
+pub struct Progress {
+    pub state: State,
+    pub written: bool,
+}
+
+// The bytes of one read. An answer is written before the next byte is looked at; where it cannot be, nothing more is done.
+fn chunk(got: &[u8], room: &mut [u8], card: &mut [u8], out: &mut [u8], s: State) -> Progress
     requires { ⌜ Ready (now room) (now card) (now out) s ⌝ }
-    ensures { λ r. ⌜ Ready (now (room .exit)) (now (card .exit)) (now (out .exit)) r ⌝ }
-    ensures { λ r. ⌜ fedTo (take (r .len) (now (card .exit))) (take (r .used) (now (room .exit))) ≡ fed (take (s .len) (now (card .entry))) (take (s .used) (now (room .entry))) (now (got .entry)) ⌝ }
+    ensures { λ r. ⌜ Ready (now (room .exit)) (now (card .exit)) (now (out .exit)) (r .state) ⌝ }
+    ensures { λ r. ⌜ (r .written ≡ true → fedTo (take (r .state .len) (now (card .exit))) (take (r .state .used) (now (room .exit))) ≡ fed (take (s .len) (now (card .entry))) (take (s .used) (now (room .entry))) (now (got .entry))) ⌝ }
 {
     let mut state = s;
     let mut i: usize = 0;
     while i < got.len() {
         state = byte(room, card, out, state, got[i]);
         let said = state.said;
-        io::write_all(STDOUT_FILENO, &out[..said]);
+        let written = io::write_all(STDOUT_FILENO, &out[..said]);
+        if !written {
+            return Progress {
+                state,
+                written: false,
+            };
+        }
         i += 1;
     }
-    state
+    Progress {
+        state,
+        written: true,
+    }
 }
 
 // A final line without its newline counts unless empty.
@@ -92,8 +108,9 @@ fn finish(room: &[u8], card: &mut [u8], out: &mut [u8], s: State) -> usize
     last.said
 }
 
-// All of the input, a read at a time. A proved loop has to end, so its turns are counted down from a number that no run uses up.
-fn serve(buf: &mut [u8], room: &mut [u8], card: &mut [u8], out: &mut [u8])
+// All of the input, a read at a time, and whether it could be read to its end and every answer written. A proved loop has to end,
+// so its turns are counted down from a number that no run uses up.
+fn serve(buf: &mut [u8], room: &mut [u8], card: &mut [u8], out: &mut [u8]) -> bool
     requires { ⌜ (length (now room) ≡ 128) × Room (now card) 0 × (length (now out) ≡ 80) ⌝ }
 {
     let mut s = State {
@@ -104,22 +121,29 @@ fn serve(buf: &mut [u8], room: &mut [u8], card: &mut [u8], out: &mut [u8])
     let mut turns = u64::MAX;
     while turns > 0 {
         let got = libc::read(STDIN_FILENO, buf);
-        if got <= 0 {
+        if got < 0 {
+            return false;
+        }
+        if got == 0 {
             let said = finish(room, card, out, s);
-            io::write_all(STDOUT_FILENO, &out[..said]);
-            return;
+            return io::write_all(STDOUT_FILENO, &out[..said]);
         }
         let n = io::count(got, buf);
-        s = chunk(&buf[..n], room, card, out, s);
+        let p = chunk(&buf[..n], room, card, out, s);
+        if !p.written {
+            return false;
+        }
+        s = p.state;
         turns -= 1;
     }
+    false
 }
 
-// The program: standard input by lines, a line of answer for each.
-pub fn run() {
+// The program: standard input by lines, a line of answer for each. Whether all could be read and written.
+pub fn run() -> bool {
     let mut buf = io::buffer();
     let mut room = [0u8; 128];
     let mut card = [0u8; 65536];
     let mut out = [0u8; 80];
-    serve(&mut buf, &mut room, &mut card, &mut out);
+    serve(&mut buf, &mut room, &mut card, &mut out)
 }

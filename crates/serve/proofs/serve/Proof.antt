@@ -22,17 +22,13 @@ slice-aggregate-chunk c = simp length-take (omega arith)
 
 loop-again : tie.Need-loop-again Inv-loop μ-loop
 loop-again c =
-    let done = c .before .before .before .before .before .before in
+    let done = c .before .before .before .before .before .before .before .before .before in
     let k = done .chunk in
-    let read = done .before .before .before .before .before .before .before .before .before .before in
+    let read = done .before .before .before .before .before .before .before .before .before .before .before in
     let l = read .before .before .before .loop in
     (read .read .kept .1 .0 ∙ l .inv .0, k .kept .1 .0 ∙ l .inv .1, k .kept .1 .1 .0 ∙ l .inv .2, k .kept .1 .1 .1 .0 ∙ l .inv .3, k .ensures .0)
 
 pub serve-spec : {M : Type 1} → statement M
 serve-spec =
     tie.close
-    (tie.spec Inv-loop μ-loop (λ c. search needs) (λ c κs. search needs) (λ c κs. search needs) (λ c. search needs)
-    slice-aggregate-write-all (λ c κs. search needs) (λ c. search needs) (λ c. search needs) (λ c. search needs)
-    (λ c. search needs) (λ c. search needs) (λ c κs. search needs) (λ c. search needs) slice-aggregate-chunk
-    (λ c κs. search needs) (λ c. search needs) (λ c. search needs) loop-again (λ c. search needs) (λ c. search needs)
-    (λ c. search needs) (λ c. search needs) (λ c. search needs))
+    (tie.spec Inv-loop μ-loop (λ c. search needs) (λ c κs. search needs) (λ c. search needs) (λ c. search needs) (λ c. search needs) (λ c. search needs) (λ c. search needs) (λ c κs. search needs) (λ c. search needs) slice-aggregate-write-all (λ c κs. search needs) (λ c. search needs) (λ c. search needs) (λ c. search needs) (λ c. search needs) (λ c. search needs) (λ c κs. search needs) (λ c. search needs) slice-aggregate-chunk (λ c κs. search needs) (λ c. search needs) (λ c. search needs) (λ c. search needs) (λ c. search needs) (λ c. search needs) (λ c. search needs) (λ c. search needs) loop-again (λ c. search needs) (λ c. search needs) (λ c. search needs) (λ c. search needs) (λ c. search needs))
