@@ -1,7 +1,7 @@
 -- The track of a write is the rule's walk: its buckets in the order of the way up. A turn of its loop.
-use mathlib.Core.Path.{_≡_, refl, ap, _∙_}
+use mathlib.Core.Path.{_≡_, refl, ap, sym, _∙_}
 use mathlib.Core.Logic.{⊎-elim}
-use mathlib.Core.Bool.{false}
+use mathlib.Core.Bool.{true, false}
 use mathlib.Core.Option.{Option, none, some}
 use mathlib.Core.List.{List, [], _∷_}
 use Prim.Native.Nat.{ℕ, zero, suc, _+_, _-_, _≤_, _<_}
@@ -13,6 +13,7 @@ use lib.ListN.{length, drop, set, length-set, drop-of-length-le}
 use lib.Seq.{drop-cons, drop-set-lt, getD-set-same}
 use Rattle.rules.specs.declared.Entry.{Entry}
 use Rattle.rules.specs.declared.Head.{Head}
+use Rattle.laws.proofs.Tools.{false-true}
 use Rattle.rules.specs.Bucket.{bucket, log}
 use Rattle.rules.specs.Walk.{Visit, Turn, broken, arrived, down, left, copyOf, turn, met, go, goIn, path, pathFrom, walk, dataOf}
 use Rattle.rules.specs.Write.{latest}
@@ -26,7 +27,7 @@ use Rattle.scan.proofs.Ways.{wayOn, wayIn, search-bucket, rootOf, search-log}
 use Rattle.scan.proofs.Looks.{Filled, path-filled, in-then}
 use Rattle.climb.specs.Levels.{upward}
 use Rattle.trail.specs.declared.Trail.{Trail}
-use Rattle.trail.specs.Trail.{Track, track, trackOn, trackScan, trackFrom, Leads, Damaged}
+use Rattle.trail.specs.Trail.{Track, track, trackOn, trackScan, trackFrom, Went}
 
 -- the track of a path, below those that were met above it
 unfoldable pub trackIn : ℕ → List ℕ → Option (List Visit) → Track
@@ -90,12 +91,10 @@ no-root h card x Damage p = refl
 no-root h card x Nothing p = refl
 no-root h card x (Hit e) p = ⊎-elim (λ a. absurd (omega arith)) (λ b. absurd (omega arith)) p
 
--- the log's root entry, before any bucket is written down
-pub hit-from : (h : Head) (card : List ℕ) (x : ℕ) (path : List ℕ) (f : Found) (e : Entry) → length path ≡ 4096 → f ≡ Hit e
-    → trackScan h card x (h .n) (drop 4096 path) (e .value) 0 ≡ trackFrom h card x f
+-- the log's root entry
+pub hit-from : (h : Head) (card : List ℕ) (x : ℕ) (f : Found) (e : Entry) → f ≡ Hit e → trackScan h card x (h .n) [] (e .value) 0 ≡ trackFrom h card x f
 unfolding trackFrom
-hit-from h card x path f e long q =
-    rw q (ap (λ (l : List ℕ). trackScan h card x (h .n) l (e .value) 0) (drop-of-length-le path {i = 4096} (omega arith)))
+hit-from h card x f e q = rw q
 
 -- a bucket written down in front of those above it
 store-front : (path : List ℕ) (i b : ℕ) → i < length path → drop i (set path i b) ≡ b ∷ drop (suc i) path
@@ -103,32 +102,34 @@ store-front path i b lt =
     let long : i < length (set path i b) = simp length-set lt in
     drop-cons (set path i b) i 0 long ∙ rw (getD-set-same path i b 0 lt, drop-set-lt (suc i) path i b (omega arith))
 
-pub lost-leads : (r : Trail) (path : List ℕ) (t : Track) → Damaged r → length path ≡ 4096 → track [] Damage ≡ t → Leads r path t
-lost-leads r path t d long e =
-    record {
-      long = long;
-      most = omega (arith, d .start);
-      levels = drop-of-length-le path {i = r .start} (omega (arith, d .start)) ∙ ap (λ (y : Track). y .path) e;
-      found = d .found ∙ ap (λ (y : Track). y .found) e;
-    }
+module _ (path : List ℕ) (places n : ℕ) (t : Track) (long : length path ≡ places) where
+  -- a walk that ended is no deep one
+  ended : (start : ℕ) (f : Found) → start ≤ places → drop start path ≡ t .path → f ≡ t .found → Went (record { start = start; found = f; deep = false }) places n path t
+  ended start f most levels found =
+      record { long = long; leads = λ no. record { most = most; levels = levels; found = found }; few = λ yes. absurd (false-true yes) }
 
-pub came-leads : (start : ℕ) (f : Found) (path : List ℕ) (t : Track) → length path ≡ 4096 → start ≤ 4096 → track (drop start path) f ≡ t
-    → Leads (record { start = start; found = f }) path t
-came-leads start f path t long most e =
-    record { long = long; most = most; levels = ap (λ (y : Track). y .path) e; found = ap (λ (y : Track). y .found) e }
+  pub lost-leads : (r : Trail) → r ≡ record { start = places; found = Damage; deep = false } → track [] Damage ≡ t → Went r places n path t
+  lost-leads r is e =
+      rw is (ended places Damage (omega arith) (drop-of-length-le path {i = places} (omega arith) ∙ ap (λ (y : Track). y .path) e) (ap (λ (y : Track). y .found) e))
+
+  pub came-leads : (start : ℕ) (f : Found) → start ≤ places → track (drop start path) f ≡ t → Went (record { start = start; found = f; deep = false }) places n path t
+  came-leads start f most e = ended start f most (ap (λ (y : Track). y .path) e) (ap (λ (y : Track). y .found) e)
+
+  pub deep-goes : (start : ℕ) (f : Found) → places < n → Went (record { start = start; found = f; deep = true }) places n path t
+  deep-goes start f few = record { long = long; leads = λ no. absurd (false-true (sym no)); few = λ yes. few }
 
 pub track-out : (h : Head) (card : List ℕ) (x r b k : ℕ) (above : List ℕ) (w : Track) → r ≡ h .n → trackScan h card x (h .n - r) above b k ≡ w → track [] Damage ≡ w
 unfolding trackScan
 track-out h card x r b k above w e inv = let z : h .n - r ≡ 0 = omega arith in rw z at inv
 
 -- one bucket of the walk, as the loop has the numbers: s is what its search said
-module _ (h : Head) (card : List ℕ) (x r b k : ℕ) (path : List ℕ) (w : Track) (s : Way) (lt : r < h .n) (few : r < 4096) (long : length path ≡ 4096)
-    (said : s ≡ searchAt h card x latest b k) (inv : trackScan h card x (h .n - r) (drop (4096 - r) path) b k ≡ w) where
+module _ (h : Head) (card : List ℕ) (x r b k places : ℕ) (path : List ℕ) (w : Track) (s : Way) (lt : r < h .n) (few : r < places) (long : length path ≡ places)
+    (said : s ≡ searchAt h card x latest b k) (inv : trackScan h card x (h .n - r) (drop (places - r) path) b k ≡ w) where
   abbrev start : ℕ
-  start = 4096 - (r + 1)
+  start = places - (r + 1)
 
-  stored : drop start (set path start b) ≡ b ∷ drop (4096 - r) path
-  stored = store-front path start b (omega arith) ∙ ap (λ (n : ℕ). b ∷ drop n path) (let z : suc start ≡ 4096 - r = omega arith in z)
+  stored : drop start (set path start b) ≡ b ∷ drop (places - r) path
+  stored = store-front path start b (omega arith) ∙ ap (λ (n : ℕ). b ∷ drop n path) (let z : suc start ≡ places - r = omega arith in z)
 
   pub track-turn : trackOn s (drop start (set path start b)) (trackScan h card x (h .n - (r + 1)) (drop start (set path start b))) ≡ w
   unfolding trackScan

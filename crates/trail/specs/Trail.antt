@@ -1,5 +1,6 @@
 -- The walk of a write as its loop runs: the buckets met are put in front of those above them.
-use Prim.Native.Nat.{ℕ, zero, suc, _≤_}
+use Prim.Native.Nat.{ℕ, zero, suc, _≤_, _<_}
+use mathlib.Core.Bool.{true, false}
 use mathlib.Core.Path.{_≡_}
 use mathlib.Core.List.{List, [], _∷_}
 use lib.ListN.{length, drop}
@@ -36,13 +37,14 @@ trackFrom h card x Damage = track [] Damage
 trackFrom h card x Nothing = track [] Damage
 trackFrom h card x (Hit e) = trackScan h card x (h .n) [] (e .value) 0
 
--- the lent path holds the track from the start on
-pub record Leads (r : Trail) (path : List ℕ) (t : Track) : Type 0 where
-  pub long : length path ≡ 4096
-  pub most : r .start ≤ 4096
+-- the lent path, of so many places, holds the track from the start on
+pub record Leads (r : Trail) (places : ℕ) (path : List ℕ) (t : Track) : Type 0 where
+  pub most : r .start ≤ places
   pub levels : drop (r .start) path ≡ t .path
   pub found : r .found ≡ t .found
 
-pub record Damaged (r : Trail) : Type 0 where
-  pub start : r .start ≡ 4096
-  pub found : r .found ≡ Damage
+-- it does, or the walk has more buckets than places, of n at most
+pub record Went (r : Trail) (places n : ℕ) (path : List ℕ) (t : Track) : Type 0 where
+  pub long : length path ≡ places
+  pub leads : r .deep ≡ false → Leads r places path t
+  pub few : r .deep ≡ true → places < n

@@ -4,45 +4,58 @@ use scan::Found;
 use scan::Way;
 ghost use mathlib.Core.Path.{_≡_};
 ghost use Prim.Native.Nat.{_≤_};
-ghost use lib.ListN.{length, drop};
+ghost use mathlib.Core.Bool.{false};
+ghost use mathlib.Core.List.{[]};
+ghost use lib.ListN.{length};
 ghost use Rattle.scan.specs.Scan.{sectors, searchLog};
 ghost use Rattle.bucket.specs.Shapes.{Shape};
-ghost use Rattle.trail.specs.Trail.{Leads, trackScan, trackFrom, Damaged};
+ghost use Rattle.trail.specs.Trail.{Went, trackScan, trackFrom};
 
-// Where the walk's buckets begin in the lent path, and what the data bucket says of the key.
+// Where the walk's buckets begin in the lent path, and what the data bucket says of the key; or that the path has too few places.
 pub struct Trail {
     pub start: usize,
     pub found: Found,
+    pub deep: bool,
 }
 
-fn lost() -> Trail
-    ensures { λ r. ⌜ Damaged r ⌝ }
+// No bucket of a path of so many places.
+fn lost(places: usize) -> Trail
+    ensures { λ r. ⌜ r ≡ record { start = places; found = Found.Damage; deep = false } ⌝ }
 {
     Trail {
-        start: 4096,
+        start: places,
         found: Found::Damage,
+        deep: false,
     }
 }
 
 // From the root down. The path is filled from its end, so that the bucket met last comes first.
 fn descend(card: &[u8], head: Head, root: u32, key: u32, path: &mut [u32]) -> Trail
-    requires { ⌜ Shape head (now card) × (1 ≤ root) × (root ≤ head .n) × (length (now path) ≡ 4096) ⌝ }
-    ensures { λ r. ⌜ Leads r (now (path .exit)) (trackScan head (now (card .entry)) key (head .n) (drop 4096 (now (path .entry))) root 0) ⌝ }
+    requires { ⌜ Shape head (now card) × (1 ≤ root) × (root ≤ head .n) ⌝ }
+    ensures { λ r. ⌜ Went r (length (now (path .entry))) (head .n) (now (path .exit)) (trackScan head (now (card .entry)) key (head .n) [] root 0) ⌝ }
 {
     let n = head.n;
+    let places = path.len();
     let mut b = root;
     let mut header: u32 = 0;
     let mut reads: usize = 0;
     loop {
         if reads == n {
-            return lost();
+            return lost(places);
+        }
+        if reads == places {
+            return Trail {
+                start: places,
+                found: Found::Damage,
+                deep: true,
+            };
         }
         let way = bucket::search(card, head, b, header, key, 4294967295);
         reads += 1;
-        let start = 4096 - reads;
+        let start = places - reads;
         path[start] = b;
         match way {
-            Way::Lost => return lost(),
+            Way::Lost => return lost(places),
             Way::Down(e) => {
                 b = e.value;
                 header = e.key;
@@ -51,12 +64,14 @@ fn descend(card: &[u8], head: Head, root: u32, key: u32, path: &mut [u32]) -> Tr
                 return Trail {
                     start,
                     found: Found::Nothing,
+                    deep: false,
                 };
             }
             Way::Copy(e) => {
                 return Trail {
                     start,
                     found: Found::Hit(e),
+                    deep: false,
                 };
             }
         }
@@ -64,12 +79,13 @@ fn descend(card: &[u8], head: Head, root: u32, key: u32, path: &mut [u32]) -> Tr
 }
 
 pub fn walk_down(card: &[u8], head: Head, key: u32, path: &mut [u32]) -> Trail
-    requires { ⌜ Shape head (now card) × (length (now path) ≡ 4096) ⌝ }
-    ensures { λ r. ⌜ Leads r (now (path .exit)) (trackFrom head (now (card .entry)) key (searchLog 4294967295 (sectors (head .n) (now (card .entry)) 1 (head .n)))) ⌝ }
+    requires { ⌜ Shape head (now card) ⌝ }
+    ensures { λ r. ⌜ Went r (length (now (path .entry))) (head .n) (now (path .exit)) (trackFrom head (now (card .entry)) key (searchLog 4294967295 (sectors (head .n) (now (card .entry)) 1 (head .n)))) ⌝ }
 {
+    let places = path.len();
     let found = bucket::find_root(card, head, 4294967295);
     let Found::Hit(root) = found else {
-        return lost();
+        return lost(places);
     };
     descend(card, head, root.value, key, path)
 }

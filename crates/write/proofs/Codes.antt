@@ -4,23 +4,25 @@ use mathlib.Core.Logic.{⊎-elim}
 use mathlib.Core.Bool.{Bool, true, false, not}
 use mathlib.Core.Option.{Option, none, some}
 use mathlib.Core.List.{List, []}
-use Prim.Native.Nat.{ℕ, zero, suc}
+use Prim.Native.Nat.{ℕ, zero, suc, _<_}
 use native.Mathlib.Omega.{arith}
 use lib.Dec.{eqb, leb}
 use borrow.Author.Tests.{eq-eqb, ne-eqb}
 use Rattle.rules.specs.declared.Entry.{Entry}
 use Rattle.rules.specs.declared.Head.{Head}
+use Rattle.rules.specs.declared.Answer.{Answer}
 use Rattle.rules.specs.Plain.{_&_, isNone}
 use Rattle.rules.specs.Sector.{isPost}
 use Rattle.rules.specs.Layout.{headOf}
 use Rattle.rules.specs.Walk.{Visit, walk, standing, standsOn, copyOf, left, dataOf}
 use Rattle.rules.specs.Write.{Plan, refuse, refuseIf, planOn, planAt, planFor, plan, stampOn, latest}
-use Rattle.laws.proofs.Tools.{bool-cases}
+use Rattle.laws.proofs.Tools.{bool-cases, false-true}
+use Rattle.laws.proofs.Follows.{Follows}
 use Rattle.scan.specs.declared.Found.{Found}
 use Rattle.scan.proofs.Picks.{hit}
 use Rattle.trail.proofs.Tracks.{trackIn}
 use Rattle.climb.specs.Levels.{upward}
-use Rattle.write.specs.Plans.{codeOf, pathOr, walked, Came}
+use Rattle.write.specs.Plans.{codeOf, pathOr, walked, Came, Tried}
 
 -- a number refuses, 0 goes on
 abbrev coded : ℕ → Plan → Plan
@@ -98,3 +100,12 @@ module _ (card : List ℕ) (e : Entry) where
 pub came-path : (h : Head) (card : List ℕ) (x : ℕ) → Came h card x → trackIn x [] (walk h card latest x) .path ≡ upward (walked h card x) []
 unfolding trackIn
 came-path h card x q = ap (λ (o : Option (List Visit)). trackIn x [] o .path) q
+
+-- a path was tried: it had places enough, or not
+module _ (places n : ℕ) (card : List ℕ) (p : Plan) where
+  pub did : (a : Answer) (after : List ℕ) → Follows p card a after → Tried (record { deep = false; answer = a }) places n card after p
+  did a after f = record { answer = λ no. f .answer; bytes = λ no. f .bytes; same = λ yes. absurd (false-true yes); few = λ yes. absurd (false-true yes) }
+
+  pub did-not : (a : Answer) → places < n → Tried (record { deep = true; answer = a }) places n card card p
+  did-not a less =
+      record { answer = λ no. absurd (false-true (sym no)); bytes = λ no. absurd (false-true (sym no)); same = λ yes. refl; few = λ yes. less }

@@ -1,5 +1,6 @@
--- What a walk's end has against an entry, and the path of a walk that came to data.
-use Prim.Native.Nat.{ℕ}
+-- What a walk's end has against an entry, the path of a walk that came to data, and what a path that was tried gives.
+use Prim.Native.Nat.{ℕ, _<_}
+use mathlib.Core.Bool.{true, false}
 use mathlib.Core.Path.{_≡_}
 use mathlib.Core.List.{List, []}
 use mathlib.Core.Option.{Option, none, some}
@@ -7,8 +8,9 @@ use lib.Dec.{eqb}
 use Rattle.rules.specs.declared.Head.{Head}
 use Rattle.rules.specs.Plain.{if}
 use Rattle.rules.specs.Walk.{Visit, walk}
-use Rattle.rules.specs.Write.{latest}
+use Rattle.rules.specs.Write.{Plan, planAnswer, planCard, latest}
 use Rattle.scan.specs.declared.Found.{Found}
+use Rattle.write.specs.declared.Outcome.{Outcome}
 use Rattle.scan.specs.declared.Found.the-variants.{Damage, Nothing, Hit}
 
 unfoldable pub codeOf : ℕ → Found → ℕ
@@ -25,3 +27,10 @@ walked h card x = pathOr (walk h card latest x)
 
 abbrev pub Came : Head → List ℕ → ℕ → Type 0
 Came h card x = walk h card latest x ≡ some (walked h card x)
+
+-- a path of so many places was tried, for a walk of n buckets at most: the plan was followed, or the card is as it was
+pub record Tried (r : Outcome) (places n : ℕ) (card after : List ℕ) (p : Plan) : Type 0 where
+  pub answer : r .deep ≡ false → r .answer ≡ planAnswer p
+  pub bytes : r .deep ≡ false → after ≡ planCard card p
+  pub same : r .deep ≡ true → after ≡ card
+  pub few : r .deep ≡ true → places < n

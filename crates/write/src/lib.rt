@@ -20,7 +20,7 @@ ghost use Rattle.rules.specs.Walk.{walk};
 ghost use Rattle.rules.specs.Write.{planAnswer, planCard, planOn, planAt, plan, post, strike, topUsed};
 ghost use Rattle.bucket.specs.Shapes.{Shape};
 ghost use Rattle.climb.specs.Levels.{upward};
-ghost use Rattle.write.specs.Plans.{codeOf, walked, Came};
+ghost use Rattle.write.specs.Plans.{codeOf, walked, Came, Tried};
 
 // Whether the log has no blank sector.
 fn log_full(card: &[u8], head: Head) -> bool
@@ -49,7 +49,7 @@ fn too_full(card: &[u8], head: Head, needs: Needs) -> bool
 // The entry goes in along the path that the walk met: all that can refuse is known before the first byte is written.
 fn lay(card: &mut [u8], head: Head, e: Entry, path: &[u32], start: usize, used: usize) -> Answer
     requires { ⌜ (headOf (now card) ≡ some head) × Came head (now card) (e .key) × (e .kind < 256) × (used ≡ topUsed head (now card) (head .n)) ⌝ }
-    requires { ⌜ (drop start (now path) ≡ upward (walked head (now card) (e .key)) []) × (start ≤ length (now path)) × (length (now path) ≡ 4096) ⌝ }
+    requires { ⌜ (drop start (now path) ≡ upward (walked head (now card) (e .key)) []) × (start ≤ length (now path)) × (length (now path) ≤ 4096) ⌝ }
     ensures { λ r. ⌜ r ≡ planAnswer (planOn head (now (card .entry)) e (walked head (now (card .entry)) (e .key))) ⌝ }
     ensures { λ _. ⌜ now (card .exit) ≡ planCard (now (card .entry)) (planOn head (now (card .entry)) e (walked head (now (card .entry)) (e .key))) ⌝ }
 {
@@ -92,21 +92,88 @@ fn objection(kind: u32, found: Found) -> u32
     }
 }
 
-// The entry in its bucket, or what refuses it from the walk on. `used` is the highest bucket with a nonzero byte.
-fn insert(card: &mut [u8], head: Head, e: Entry, used: usize) -> Answer
+// What came of a lent path: the write's answer, or that the walk has more buckets than the path has places.
+pub struct Outcome {
+    pub deep: bool,
+    pub answer: Answer,
+}
+
+// The entry in its bucket, or what refuses it from the walk on, where the path that was lent has places enough. `used` is the highest bucket with a nonzero byte.
+fn along(card: &mut [u8], head: Head, e: Entry, used: usize, path: &mut [u32]) -> Outcome
+    requires { ⌜ (headOf (now card) ≡ some head) × (e .kind < 256) × (used ≡ topUsed head (now card) (head .n)) × (length (now path) ≤ 4096) ⌝ }
+    ensures { λ r. ⌜ Tried r (length (now (path .entry))) (head .n) (now (card .entry)) (now (card .exit)) (planAt head (now (card .entry)) e (walk head (now (card .entry)) 4294967295 (e .key))) ⌝ }
+{
+    let t = trail::walk_down(card, head, e.key, path);
+    if t.deep {
+        return Outcome {
+            deep: true,
+            answer: walk::refusal(4),
+        };
+    }
+    let start = t.start;
+    let found = t.found;
+    let code = objection(e.kind, found);
+    if code != 0 {
+        return Outcome {
+            deep: false,
+            answer: walk::refusal(code),
+        };
+    }
+    let answer = lay(card, head, e, path, start, used);
+    Outcome {
+        deep: false,
+        answer,
+    }
+}
+
+fn on_short_path(card: &mut [u8], head: Head, e: Entry, used: usize) -> Outcome
+    requires { ⌜ (headOf (now card) ≡ some head) × (e .kind < 256) × (used ≡ topUsed head (now card) (head .n)) ⌝ }
+    ensures { λ r. ⌜ Tried r 32 (head .n) (now (card .entry)) (now (card .exit)) (planAt head (now (card .entry)) e (walk head (now (card .entry)) 4294967295 (e .key))) ⌝ }
+{
+    let mut path = [0u32; 32];
+    along(card, head, e, used, &mut path)
+}
+
+// No walk has more than 4,096 buckets.
+fn on_long_path(card: &mut [u8], head: Head, e: Entry, used: usize) -> Answer
     requires { ⌜ (headOf (now card) ≡ some head) × (e .kind < 256) × (used ≡ topUsed head (now card) (head .n)) ⌝ }
     ensures { λ r. ⌜ r ≡ planAnswer (planAt head (now (card .entry)) e (walk head (now (card .entry)) 4294967295 (e .key))) ⌝ }
     ensures { λ _. ⌜ now (card .exit) ≡ planCard (now (card .entry)) (planAt head (now (card .entry)) e (walk head (now (card .entry)) 4294967295 (e .key))) ⌝ }
 {
     let mut path = [0u32; 4096];
-    let t = trail::walk_down(card, head, e.key, &mut path);
-    let start = t.start;
-    let found = t.found;
-    let code = objection(e.kind, found);
-    if code != 0 {
-        return walk::refusal(code);
+    let o = along(card, head, e, used, &mut path);
+    o.answer
+}
+
+// An entry to be laid down, the highest bucket with a nonzero byte, and whether the walk is known to be a deep one.
+pub struct Task {
+    pub entry: Entry,
+    pub used: usize,
+    pub deep: bool,
+}
+
+// The entry in its bucket, or what refuses it from the walk on. A short path is tried first, which every card of ours
+// is content with; where the walk is deeper the function calls itself for the long one, so that only then its 16 KiB lie on the stack.
+fn insert(card: &mut [u8], head: Head, task: Task) -> Answer
+    requires { ⌜ (headOf (now card) ≡ some head) × (task .entry .kind < 256) × (task .used ≡ topUsed head (now card) (head .n)) ⌝ }
+    ensures { λ r. ⌜ r ≡ planAnswer (planAt head (now (card .entry)) (task .entry) (walk head (now (card .entry)) 4294967295 (task .entry .key))) ⌝ }
+    ensures { λ _. ⌜ now (card .exit) ≡ planCard (now (card .entry)) (planAt head (now (card .entry)) (task .entry) (walk head (now (card .entry)) 4294967295 (task .entry .key))) ⌝ }
+{
+    let entry = task.entry;
+    let used = task.used;
+    if task.deep {
+        return on_long_path(card, head, entry, used);
     }
-    lay(card, head, e, &path, start, used)
+    let o = on_short_path(card, head, entry, used);
+    if o.deep {
+        let again = Task {
+            entry,
+            used,
+            deep: true,
+        };
+        return insert(card, head, again);
+    }
+    o.answer
 }
 
 fn enter(card: &mut [u8], e: Entry) -> Answer
@@ -125,7 +192,12 @@ fn enter(card: &mut [u8], e: Entry) -> Answer
     if area.late {
         return walk::refusal(3);
     }
-    insert(card, head, e, area.used)
+    let task = Task {
+        entry: e,
+        used: area.used,
+        deep: false,
+    };
+    insert(card, head, task)
 }
 
 // A new time or a correction.

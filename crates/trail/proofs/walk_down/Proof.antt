@@ -1,9 +1,10 @@
 -- `trail::walk_down` starts at the log's last root entry.
 use borrow.Author.Needs.{needs}
-use mathlib.Core.Path.{ap, sym, _∙_, subst}
+use mathlib.Core.Path.{refl, ap, sym, _∙_, subst}
+use lib.ListN.{length}
 use denote.Ref.{now}
 use Rattle.scan.proofs.Parts.{root-found}
-use Rattle.trail.specs.Trail.{trackFrom, Leads}
+use Rattle.trail.specs.Trail.{trackFrom, Went}
 use Rattle.trail.proofs.Tracks.{lost-leads, no-root, hit-from}
 use Rattle.trail.proofs.walk_down.Statement.{statement}
 use Rattle.trail.proofs.walk_down.Tie as tie
@@ -11,9 +12,8 @@ use Rattle.trail.proofs.walk_down.Tie as tie
 returns : tie.Need-returns
 returns c =
     let at-find-root = c .before .before in
-    let o = at-find-root .before .before .before in
-    let a = o .args in
-    lost-leads _ _ _ (c .lost .ensures) (o .pre .1)
+    let a = at-find-root .before .before .before .args in
+    lost-leads (a .path .now) _ (a .head .n) _ refl _ (c .lost .ensures)
     (no-root (a .head) (now (a .card)) (a .key) _ (c .before .match .keys2) ∙ ap (trackFrom (a .head) (now (a .card)) (a .key)) (at-find-root .find-root .ensures))
 
 descend-requires : tie.Need-descend-requires
@@ -23,18 +23,16 @@ descend-requires c κs =
     let o = at-find-root .before .before .before in
     let n = o .args .head .n in
     let inside = root-found n (now (o .args .card)) 4294967295 1 n _ (sym (at-find-root .find-root .ensures) ∙ at-found .found .given .1) in
-    (o .pre .0, inside .0, inside .1, o .pre .1)
+    (o .pre, inside .0, inside .1)
 
 returns-2 : tie.Need-returns-2
 returns-2 c =
     let at-descend = c .before .before in
     let at-found = at-descend .before .before .before in
     let at-find-root = at-found .before .before in
-    let o = at-find-root .before .before .before in
-    let a = o .args in
-    subst (Leads _ _)
-    (hit-from (a .head) (now (a .card)) (a .key) (a .path .now) _ _ (o .pre .1) (at-found .found .given .1)
-    ∙ ap (trackFrom (a .head) (now (a .card)) (a .key)) (at-find-root .find-root .ensures))
+    let a = at-find-root .before .before .before .args in
+    subst (Went _ (length (a .path .now)) (a .head .n) _)
+    (hit-from (a .head) (now (a .card)) (a .key) _ _ (at-found .found .given .1) ∙ ap (trackFrom (a .head) (now (a .card)) (a .key)) (at-find-root .find-root .ensures))
     (at-descend .descend .ensures)
 
 pub walk-down-spec : {M : Type 1} → statement M
