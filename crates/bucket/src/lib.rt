@@ -10,7 +10,7 @@ ghost use Rattle.scan.specs.Look.{partOf, logOf, searchAt};
 ghost use Rattle.bucket.specs.Places.{foundAt, dataFits, indexFits};
 ghost use Rattle.bucket.specs.Shapes.{Shape};
 
-mod picks;
+pub mod picks;
 
 use rules::Head;
 use rules::Sector;
@@ -48,7 +48,7 @@ pub fn log_part(card: &[u8], head: Head) -> &[u8]
 }
 
 // The entry before sector `hit` of a part; none where `hit` is 0.
-fn entry_at(part: &[u8], hit: usize) -> Found
+pub fn entry_at(part: &[u8], hit: usize) -> Found
     requires { ⌜ 16 * hit ≤ length (now part) ⌝ }
     ensures { λ r. ⌜ r ≡ foundAt (now (part .entry)) hit ⌝ }
 {

@@ -1,1 +1,1 @@
-pub mod Nearer
+pub mod Ranks

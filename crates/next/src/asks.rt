@@ -1,88 +1,54 @@
-// What next asks of one bucket.
+// What next asks of one bucket. A search has judged it, so that it is read by its fields alone.
 ghost use mathlib.Core.Path.{_≡_};
-ghost use Prim.Native.Nat.{_-_, _*_, _≤_};
+ghost use mathlib.Core.Bool.{Bool, true};
+ghost use Prim.Native.Nat.{_*_, _≤_};
 ghost use lib.ListN.{length};
+ghost use Rattle.rules.specs.declared.Entry.{Entry};
+ghost use Rattle.rules.specs.Sector.{isIndex, isData};
 ghost use Rattle.scan.specs.Scan.{sectors};
-ghost use Rattle.scan.specs.Next.{pickUp, weigh, later, pickNext, standIn};
+ghost use Rattle.scan.specs.Next.{aboveAt, pickUp, weigh, runs, standIn};
 use crate::picks;
-use rules::Entry;
-use rules::Sector;
 use scan::Found;
+
+// The least key above x of the entries stamped t or earlier, its last copy. A blank sector has key 0, which is above nothing.
+fn least(part: &[u8], n: usize, m: usize, x: u32, t: u32) -> Found
+    requires { ⌜ (length (now part) ≡ 16 * m) × (m ≤ 32) × ((ok : Entry → Bool) × (runs ok (sectors n (now part) 0 m) ≡ true)) ⌝ }
+    ensures { λ r. ⌜ r ≡ weigh (aboveAt x t) (sectors n (now (part .entry)) 0 m) Found.Nothing ⌝ }
+{
+    let mut best: u64 = 0;
+    let mut i: usize = 0;
+    while i < m {
+        let e = sector::fields_at(part, i);
+        i += 1;
+        best = bucket::picks::larger(best, picks::rank_above(x, t, e, i));
+    }
+    bucket::entry_at(part, bucket::picks::place_of(best))
+}
 
 // The least key above x of an index bucket's entries, or the best so far where that is less.
 pub fn least_above(part: &[u8], n: usize, m: usize, x: u32, t: u32, up: Found) -> Found
-    requires { ⌜ (length (now part) ≡ 16 * m) × (m ≤ 32) ⌝ }
+    requires { ⌜ (length (now part) ≡ 16 * m) × (m ≤ 32) × (runs isIndex (sectors n (now part) 0 m) ≡ true) ⌝ }
     ensures { λ r. ⌜ r ≡ weigh (pickUp x t) (sectors n (now (part .entry)) 0 m) up ⌝ }
 {
-    let mut least = up;
-    let mut i: usize = 0;
-    while i < m {
-        let s = sector::at(part, n, i);
-        let Sector::Held(d) = s else {
-            return least;
-        };
-        least = picks::pick_up(x, t, least, d);
-        i += 1;
-    }
-    least
+    let found = least(part, n, m, x, t);
+    picks::lower(up, found)
 }
 
-// Whether a copy of the bib stamped t or earlier stands at sector `from` or behind it.
-fn comes_again(part: &[u8], n: usize, m: usize, from: usize, bib: u32, t: u32) -> bool
-    requires { ⌜ (length (now part) ≡ 16 * m) × (m ≤ 32) × (from ≤ m) ⌝ }
-    ensures { λ r. ⌜ r ≡ later bib t (sectors n (now (part .entry)) from (m - from)) ⌝ }
-{
-    let mut i = from;
-    while i < m {
-        let s = sector::at(part, n, i);
-        let Sector::Held(d) = s else {
-            return false;
-        };
-        if picks::is_copy(bib, t, d) {
-            return true;
-        }
-        i += 1;
-    }
-    false
-}
-
-// The entry before sector `from` against the best so far; only of one that would be the next is a later copy looked for.
-fn pick_next(
-    part: &[u8],
-    n: usize,
-    m: usize,
-    from: usize,
-    k: u32,
-    t: u32,
-    best: Found,
-    d: Entry,
-) -> Found
-    requires { ⌜ (length (now part) ≡ 16 * m) × (m ≤ 32) × (from ≤ m) ⌝ }
-    ensures { λ r. ⌜ r ≡ pickNext k t (later (d .key) t (sectors n (now (part .entry)) from (m - from))) best d ⌝ }
-{
-    if picks::is_candidate(k, t, best, d) {
-        if comes_again(part, n, m, from, d.key, t) {
-            return best;
-        }
-        return Found::Hit(d);
-    }
-    best
-}
-
-// The smallest standing bib above k of a data bucket.
+// The smallest standing bib above k of a data bucket: the least bib above k if its last copy is a post, else that above it.
 pub fn standing(part: &[u8], n: usize, m: usize, k: u32, t: u32) -> Found
-    requires { ⌜ (length (now part) ≡ 16 * m) × (m ≤ 32) ⌝ }
+    requires { ⌜ (length (now part) ≡ 16 * m) × (m ≤ 32) × (runs isData (sectors n (now part) 0 m) ≡ true) ⌝ }
     ensures { λ r. ⌜ r ≡ standIn k t (sectors n (now (part .entry)) 0 m) Found.Nothing ⌝ }
 {
-    let mut best = Found::Nothing;
-    let mut i: usize = 0;
-    while i < m {
-        let s = sector::at(part, n, i);
-        let Sector::Held(d) = s else {
-            return best;
+    let mut x = k;
+    let stands = loop {
+        let found = least(part, n, m, x, t);
+        let Found::Hit(e) = found else {
+            break Found::Nothing;
         };
-        best = pick_next(part, n, m, i + 1, k, t, best, d);
-        i += 1;
-    }
-    best
+        if e.kind == 1 {
+            break Found::Hit(e);
+        }
+        x = picks::key_of(e);
+    };
+    stands
 }

@@ -1,10 +1,12 @@
 // The smallest standing bib above a given one, as of a stamp.
 ghost use mathlib.Core.Path.{_≡_};
 ghost use Prim.Native.Nat.{_≤_};
+ghost use mathlib.Core.Bool.{true};
+ghost use Rattle.rules.specs.Sector.{isIndex, isData};
 ghost use Rattle.rules.specs.Answers.{answer, ended};
 ghost use Rattle.rules.specs.Next.{next};
 ghost use Rattle.scan.specs.Scan.{sectors, searchLog};
-ghost use Rattle.scan.specs.Next.{pickUp, weigh, standIn, sectorsOf, legOf, legScan, rounds};
+ghost use Rattle.scan.specs.Next.{pickUp, weigh, runs, standIn, sectorsOf, legOf, legScan, rounds};
 ghost use Rattle.bucket.specs.Shapes.{Shape};
 
 mod asks;
@@ -18,20 +20,20 @@ use scan::Leg;
 use scan::Way;
 use walk::Layout;
 
-// The least index key above x, with bucket b's.
+// The least index key above x, with bucket b's, which was searched.
 fn key_above(card: &[u8], head: Head, b: u32, x: u32, t: u32, up: Found) -> Found
     requires { ⌜ Shape head (now card) ⌝ }
-    requires { ⌜ (1 ≤ b) × (b ≤ head .n) ⌝ }
+    requires { ⌜ (1 ≤ b) × (b ≤ head .n) × (runs isIndex (sectorsOf head (now card) b) ≡ true) ⌝ }
     ensures { λ r. ⌜ r ≡ weigh (pickUp x t) (sectorsOf head (now (card .entry)) b) up ⌝ }
 {
     let part = bucket::bucket_part(card, head, b);
     asks::least_above(part, head.n, head.m, x, t, up)
 }
 
-// Where a walk ends, in the data bucket b: the bib that is next, or the index key to walk to.
+// Where a walk ends, in the data bucket b, which was searched: the bib that is next, or the index key to walk to.
 fn arrive(card: &[u8], head: Head, b: u32, k: u32, t: u32, up: Found) -> Leg
     requires { ⌜ Shape head (now card) ⌝ }
-    requires { ⌜ (1 ≤ b) × (b ≤ head .n) ⌝ }
+    requires { ⌜ (1 ≤ b) × (b ≤ head .n) × (runs isData (sectorsOf head (now card) b) ≡ true) ⌝ }
     ensures { λ r. ⌜ r ≡ legOf (standIn k t (sectorsOf head (now (card .entry)) b) Found.Nothing) up ⌝ }
 {
     let part = bucket::bucket_part(card, head, b);
@@ -96,13 +98,6 @@ fn at_end() -> Answer
     }
 }
 
-// The keys walked to rise, and have 32 bits: so the walks come to an end.
-fn key_of(e: Entry) -> u32
-    ensures { λ r. ⌜ (r ≡ e .key) × (r ≤ 4294967295) ⌝ }
-{
-    e.key
-}
-
 // Walk after walk, each to the least index key above the last, until one gives a bib or no key. The log is read once, before.
 fn walk_on(card: &[u8], head: Head, root: Entry, k: u32, t: u32) -> Answer
     requires { ⌜ Shape head (now card) ⌝ }
@@ -119,7 +114,7 @@ fn walk_on(card: &[u8], head: Head, root: Entry, k: u32, t: u32) -> Answer
                 let Found::Hit(e) = up else {
                     return at_end();
                 };
-                x = key_of(e);
+                x = picks::key_of(e);
             }
         }
     }

@@ -25,8 +25,8 @@ use Rattle.scan.specs.Scan.{sectors, scanIn, pick, wayOf, search}
 use Rattle.scan.specs.Look.{searchAt, trip, onward, walkScan}
 use Rattle.scan.specs.declared.Leg.{Leg}
 use Rattle.scan.specs.declared.Leg.the-variants.{Gone}
-use Rattle.scan.specs.Next.{pickUp, weigh, standIn, later, sectorsOf, legOf, stride, legScan}
-use Rattle.scan.proofs.Data.{Ends, data-weigh}
+use Rattle.scan.specs.Next.{pickUp, weigh, standIn, sectorsOf, legOf, stride, legScan}
+use Rattle.scan.proofs.Judged.{Says, data-weigh}
 
 -- the sectors from the i-th on, up to the m-th: the i-th, and those from the next on
 sectors-step : (n m i : ℕ) (b : List ℕ) → i < m
@@ -81,25 +81,6 @@ module _ (k x t n m : ℕ) (b : List ℕ) (s : Sector) (h : 4 ≤ m) (d : s ≡ 
   unfolding search
   first-scan e is same = rw (sectors-first n m b h, ← d, is, eq-eqb (e .key) k same)
 
--- a sector that is no entry ends each of next's passes
-pub weigh-other : (pick : Found → Entry → Found) (s : Sector) (l : List Sector) (best : Found) → OneOf (0 ∷ 2 ∷ []) (tagOf the-type s) → best ≡ weigh pick (s ∷ l) best
-unfolding weigh
-weigh-other pick Blank l best p = refl
-weigh-other pick (Held e) l best p = ⊎-elim (λ a. absurd (omega arith)) (λ c. absurd (omega arith)) p
-weigh-other pick Damaged l best p = refl
-
-pub stand-other : (k t : ℕ) (s : Sector) (l : List Sector) (best : Found) → OneOf (0 ∷ 2 ∷ []) (tagOf the-type s) → best ≡ standIn k t (s ∷ l) best
-unfolding standIn
-stand-other k t Blank l best p = refl
-stand-other k t (Held e) l best p = ⊎-elim (λ a. absurd (omega arith)) (λ c. absurd (omega arith)) p
-stand-other k t Damaged l best p = refl
-
-pub later-other : (x t : ℕ) (s : Sector) (l : List Sector) → OneOf (0 ∷ 2 ∷ []) (tagOf the-type s) → false ≡ later x t (s ∷ l)
-unfolding later
-later-other x t Blank l p = refl
-later-other x t (Held e) l p = ⊎-elim (λ a. absurd (omega arith)) (λ c. absurd (omega arith)) p
-later-other x t Damaged l p = refl
-
 -- one bucket of the walk, as its loop has the numbers; s is what its search said
 pub walk-turn : (h : Head) (card : List ℕ) (x t r b k : ℕ) (s : Way) (w : Trip) → r < h .n → s ≡ searchAt h card x t b k
     → walkScan h card x t (h .n - r) r b k ≡ w → onward s (r + 1) (walkScan h card x t (h .n - (r + 1)) (r + 1)) ≡ w
@@ -111,7 +92,7 @@ unfolding walkScan
 walk-out h card x t r b k w e inv = let z : h .n - r ≡ 0 = omega arith in rw z at inv
 
 -- the data bucket is asked for bibs alone, an index bucket for keys alone
-stride-here : (s : Way) (here there : Leg) (on : ℕ → ℕ → Leg) → (Ends s → here ≡ there) → stride s here on ≡ stride s there on
+stride-here : (s : Way) (here there : Leg) (on : ℕ → ℕ → Leg) → (Says false s → here ≡ there) → stride s here on ≡ stride s there on
 unfolding stride
 stride-here Lost here there on same = refl
 stride-here (Down e) here there on same = refl
@@ -128,7 +109,7 @@ leg-turn h card k x t r b j up s w lt said inv =
     let stand = standIn k t (sectorsOf h card b) Nothing in
     let met = weigh (pickUp x t) (sectorsOf h card b) up in
     stride-here s (legOf stand up) (legOf stand met) (legScan h card k x t (h .n - (r + 1)) met)
-    (λ e. ap (legOf stand) (sym (data-weigh h card x t b j up (subst Ends said e))))
+    (λ e. ap (legOf stand) (sym (data-weigh h card x t b j up (subst (Says false) said e))))
     ∙ rw said (rw more at inv)
 
 pub leg-out : (h : Head) (card : List ℕ) (k x t r b j : ℕ) (up : Found) (w : Leg) → r ≡ h .n → legScan h card k x t (h .n - r) up b j ≡ w → Gone ≡ w

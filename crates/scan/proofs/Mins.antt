@@ -3,7 +3,7 @@ use mathlib.Core.Path.{_≡_, refl, ap, sym, _∙_, subst}
 use mathlib.Core.Logic.{_⊎_, inl, inr, ⊎-elim}
 use mathlib.Core.Bool.{Bool, true, false, not}
 use mathlib.Core.Option.{Option, none, some}
-use Prim.Native.Nat.{ℕ, _+_, _-_, _≤_, _<_}
+use Prim.Native.Nat.{ℕ, _+_, _≤_, _<_}
 use native.Mathlib.Omega.{arith}
 use mathlib.Core.List.{List, [], _∷_, _++_, append-assoc}
 use lib.Dec.{leb, ltb, eqb}
@@ -77,7 +77,7 @@ only-out p pre e h = rw (only-append p pre (e ∷ []), h) (sym (nil (only p pre)
 lt-or-le : (a b : ℕ) → (a < b) ⊎ (b ≤ a)
 lt-or-le a b = ⊎-elim (λ h. inr h) (λ h. inl h) (le-or-lt b a)
 
-up-step : (x t : ℕ) (pre : List Entry) (e : Entry)
+pub up-step : (x t : ℕ) (pre : List Entry) (e : Entry)
     → if (leb (e .stamp) t) (if (ltb x (e .key)) (under (hit (aboveIn x t pre)) e) (hit (aboveIn x t pre))) (hit (aboveIn x t pre)) ≡ hit (aboveIn x t (pre ++ (e ∷ [])))
 up-step x t pre e =
     ⊎-elim

@@ -11,7 +11,7 @@ use Rattle.rules.specs.declared.Sector.{Sector}
 use Rattle.rules.specs.declared.Sector.the-variants.{Blank, Held, Damaged}
 use Rattle.rules.specs.Answers.{refused, ended}
 use Rattle.rules.specs.Layout.{base, headOf}
-use Rattle.rules.specs.Plain.{if}
+use Rattle.rules.specs.Plain.{if, _&_}
 use Rattle.rules.specs.Sector.{isIndex, isPost}
 use Rattle.scan.specs.declared.Found.{Found}
 use Rattle.scan.specs.declared.Found.the-variants.{Damage, Nothing, Hit}
@@ -19,7 +19,7 @@ use Rattle.scan.specs.declared.Way.{Way}
 use Rattle.scan.specs.declared.Way.the-variants.{Lost, Down, Absent, Copy}
 use Rattle.scan.specs.declared.Leg.{Leg}
 use Rattle.scan.specs.declared.Leg.the-variants.{Gone, Stand, Over}
-use Rattle.scan.specs.Scan.{sectors, searchLog}
+use Rattle.scan.specs.Scan.{sectors, allBlank, searchLog}
 use Rattle.scan.specs.Look.{searchAt}
 
 -- the smaller key
@@ -45,6 +45,19 @@ weigh pick [] best = best
 weigh pick (Blank ∷ ss) best = best
 weigh pick (Held e ∷ ss) best = weigh pick ss (pick best e)
 weigh pick (Damaged ∷ ss) best = best
+
+-- a run of entries that pass the test, and then blanks
+unfoldable pub runs : (Entry → Bool) → List Sector → Bool
+runs ok [] = true
+runs ok (Blank ∷ ss) = allBlank ss
+runs ok (Held e ∷ ss) = ok e & runs ok ss
+runs ok (Damaged ∷ ss) = false
+
+-- the entry with the smaller key of two that were found; of one key the second
+unfoldable pub lower : Found → Found → Found
+lower a Damage = Damage
+lower a Nothing = a
+lower a (Hit e) = under a e
 
 -- whether a copy of x stamped t or earlier follows
 unfoldable pub later : ℕ → ℕ → List Sector → Bool

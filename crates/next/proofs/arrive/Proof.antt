@@ -8,6 +8,14 @@ use borrow.Author.Needs.{needs}
 use Rattle.next.proofs.arrive.Statement.{statement}
 use Rattle.next.proofs.arrive.Tie as tie
 
+-- the part has the bucket's sectors
+standing-requires : tie.Need-standing-requires
+standing-requires c κs =
+    let o = c .before .before in
+    let a = o .args in
+    let fits = bucket-fits (a .head) (now (a .card)) (a .b) (o .pre .0 .long) (o .pre .1 .0) (o .pre .1 .1) in
+    (c .bucket-part .ensures .1, o .pre .0 .lim .m32, rw (c .bucket-part .ensures .0, part-sectors (a .head) (now (a .card)) (a .b) fits) (o .pre .1 .2))
+
 returns : tie.Need-returns
 returns c =
     let asked = c .before in
@@ -27,4 +35,4 @@ returns-2 c =
 
 pub arrive-spec : {M : Type 1} → statement M
 arrive-spec =
-    tie.close (tie.spec (λ c κs. search needs) (λ c κs. search needs) (λ c. search needs) returns returns-2)
+    tie.close (tie.spec (λ c κs. search needs) standing-requires (λ c. search needs) returns returns-2)

@@ -8,6 +8,7 @@ use Rattle.scan.specs.declared.Found.the-variants.{Nothing}
 use Rattle.scan.specs.Next.{pickUp, weigh, standIn, sectorsOf, legOf, stride, legScan}
 use Rattle.scan.proofs.Loops.{leg-turn, leg-out}
 use Rattle.scan.proofs.Parts.{down-inside}
+use Rattle.scan.proofs.Judged.{down-runs, absent-runs, copy-runs}
 use borrow.Author.Needs.{needs}
 use Rattle.next.proofs.walk_to.Statement.{statement}
 use Rattle.next.proofs.walk_to.Tie as tie
@@ -55,6 +56,28 @@ loop-again c =
     let inside = down-inside (a .head) (now (a .card)) (a .x) (a .t) (turn .loop .b) (turn .loop .header) _ _ (found .search .ensures) (down .way .given .1) in
     (search needs, inside .0, inside .1, rw (c .key-above .ensures) (rw (down .way .given .1) at (turn-at found)))
 
+-- what the search said of the bucket is what is asked of it
+key-above-requires : tie.Need-key-above-requires Inv-loop μ-loop
+key-above-requires c κs =
+    let found = c .before .before .before in
+    let turn = found .before .before in
+    let o = turn .before .before .before in
+    (o .pre .0, (turn .loop .inv .1, turn .loop .inv .2, down-runs (o .args .head) (now (o .args .card)) (o .args .x) (o .args .t) (turn .loop .b) (turn .loop .header) _ _ (found .search .ensures) (c .before .way .given .1)))
+
+arrive-requires : tie.Need-arrive-requires Inv-loop μ-loop
+arrive-requires c κs =
+    let found = c .before .before in
+    let turn = found .before .before in
+    let o = turn .before .before .before in
+    (o .pre .0, (turn .loop .inv .1, turn .loop .inv .2, absent-runs (o .args .head) (now (o .args .card)) (o .args .x) (o .args .t) (turn .loop .b) (turn .loop .header) _ (found .search .ensures) (c .enum-told2 .given .1)))
+
+arrive-requires-2 : tie.Need-arrive-requires-2 Inv-loop μ-loop
+arrive-requires-2 c κs =
+    let found = c .before .before in
+    let turn = found .before .before in
+    let o = turn .before .before .before in
+    (o .pre .0, (turn .loop .inv .1, turn .loop .inv .2, copy-runs (o .args .head) (now (o .args .card)) (o .args .x) (o .args .t) (turn .loop .b) (turn .loop .header) _ _ (found .search .ensures) (c .enum-told3 .given .1)))
+
 returns-3 : tie.Need-returns-3 Inv-loop μ-loop
 unfolding stride
 returns-3 c = rw (c .arrive .ensures) (rw (c .before .enum-told2 .given .1) at (turn-at (c .before .before .before)))
@@ -67,5 +90,5 @@ pub walk-to-spec : {M : Type 1} → statement M
 walk-to-spec =
     tie.close
     (tie.spec Inv-loop μ-loop (λ c. search needs) loop-holds returns (λ c κs. search needs) (λ c. search needs)
-    (λ c. search needs) returns-2 (λ c. search needs) (λ c κs. search needs) (λ c. search needs) loop-again
-    (λ c. search needs) (λ c κs. search needs) returns-3 (λ c. search needs) (λ c κs. search needs) returns-4)
+    (λ c. search needs) returns-2 (λ c. search needs) key-above-requires (λ c. search needs) loop-again
+    (λ c. search needs) arrive-requires returns-3 (λ c. search needs) arrive-requires-2 returns-4)

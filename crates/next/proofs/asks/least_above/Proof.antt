@@ -1,53 +1,15 @@
--- What is left from sector i on, with the least key so far, gives what the whole bucket gives.
-use Prim.Native.Nat.{_≤_, _+_, _-_}
-use mathlib.Core.Path.{_≡_, _∙_}
-use mathlib.Core.List.{_∷_}
-use native.Mathlib.Nat.{sub-zero}
-use denote.Ref.{now}
-use Rattle.scan.specs.Scan.{sectors}
-use Rattle.scan.specs.Next.{pickUp, weigh}
-use Rattle.scan.proofs.Loops.{sectors-turn, sectors-end, weigh-other}
+-- `next::asks::least_above`: in an index bucket every entry is one of an index.
 use borrow.Author.Needs.{needs}
+use mathlib.Core.Path.{ap, _∙_}
+use Rattle.scan.specs.Next.{lower}
+use Rattle.scan.proofs.Judged.{index-least}
 use Rattle.next.proofs.asks.least_above.Statement.{statement}
 use Rattle.next.proofs.asks.least_above.Tie as tie
 
-abbrev Inv-loop : tie.InvT-loop
-Inv-loop part n m x t least₀ i₀ least i = (i ≤ m) × (weigh (pickUp x t) (sectors n part i (m - i)) least ≡ weigh (pickUp x t) (sectors n part 0 m) least₀)
-
-abbrev μ-loop : tie.MeasureT-loop
-μ-loop part n m x t least₀ i₀ least i = m - i
-
-loop-holds : tie.Need-loop-holds Inv-loop μ-loop
-loop-holds c = (search needs, rw sub-zero)
-
--- what the sector read says of the whole pass
-turn-at : (q : tie.After-at Inv-loop μ-loop) →
-    let turn = q .before in
-    let a = turn .before .before .before .args in
-    let i = turn .before .loop .i in
-    weigh (pickUp (a .x) (a .t)) (q .at .result ∷ sectors (a .n) (now (a .part)) (i + 1) (a .m - (i + 1))) (turn .before .loop .least)
-    ≡ weigh (pickUp (a .x) (a .t)) (sectors (a .n) (now (a .part)) 0 (a .m)) (a .up)
-turn-at q =
-    let turn = q .before in
-    let a = turn .before .before .before .args in
-    sectors-turn (λ l. weigh (pickUp (a .x) (a .t)) l (turn .before .loop .least)) (a .n) (a .m) (turn .before .loop .i) (now (a .part)) _ _
-    (turn .loop-test .taken) (q .at .ensures) (turn .before .loop .inv .1)
-
-returns : tie.Need-returns Inv-loop μ-loop
-returns c = weigh-other _ _ _ _ (c .match .keys2) ∙ turn-at (c .before)
-
-loop-again : tie.Need-loop-again Inv-loop μ-loop
-unfolding weigh
-loop-again c = (search needs, rw (c .pick-up .ensures) (rw (c .before .before .s .given .1) at (turn-at (c .before .before .before .before))))
-
-returns-2 : tie.Need-returns-2 Inv-loop μ-loop
-unfolding weigh
-returns-2 c =
-    let a = c .before .before .before .args in
-    rw (sectors-end (a .n) (a .m) (c .before .loop .i) (now (a .part)) (c .loop-test .left)) at (c .before .loop .inv .1)
+returns : tie.Need-returns
+returns c =
+    let o = c .before .before .before in
+    c .lower .ensures ∙ ap (lower (o .args .up)) (c .before .least .ensures) ∙ index-least (o .args .x) (o .args .t) _ (o .args .up) (o .pre .2)
 
 pub least-above-spec : {M : Type 1} → statement M
-least-above-spec =
-    tie.close
-    (tie.spec Inv-loop μ-loop loop-holds (λ c κs. search needs) (λ c. search needs) returns (λ c κs. search needs)
-    (λ c. search needs) (λ c. search needs) loop-again returns-2)
+least-above-spec = tie.close (tie.spec (λ c κs. search needs) (λ c κs. search needs) returns)

@@ -1,54 +1,67 @@
--- What is left from sector i on, with the best bib so far, gives what the whole bucket gives.
-use Prim.Native.Nat.{_≤_, _+_, _-_}
-use mathlib.Core.Path.{_≡_, _∙_}
-use mathlib.Core.List.{_∷_}
-use native.Mathlib.Nat.{sub-zero}
+-- `next::asks::standing`: the bib that stands next above x is the one that stands next above k; x rises.
+use borrow.Author.Needs.{needs}
+use borrow.Author.Tests.{eq-eqb, ne-eqb}
+use mathlib.Core.Path.{_≡_, refl, sym, _∙_}
+use Prim.Native.Nat.{_-_, _≤_, _<_}
+use native.Mathlib.Omega.{arith}
 use denote.Ref.{now}
+use Rattle.rules.specs.Sector.{isData, isPost}
 use Rattle.scan.specs.declared.Found.the-variants.{Nothing}
 use Rattle.scan.specs.Scan.{sectors}
 use Rattle.scan.specs.Next.{standIn}
-use Rattle.scan.proofs.Loops.{sectors-turn, sectors-end, stand-other}
-use borrow.Author.Needs.{needs}
+use Rattle.scan.proofs.Judged.{none-next, next-rises, post-next, strike-next}
 use Rattle.next.proofs.asks.standing.Statement.{statement}
 use Rattle.next.proofs.asks.standing.Tie as tie
 
 abbrev Inv-loop : tie.InvT-loop
-Inv-loop part n m k t best₀ i₀ best i = (i ≤ m) × (standIn k t (sectors n part i (m - i)) best ≡ standIn k t (sectors n part 0 m) Nothing)
+Inv-loop part n m k t x₀ x = (x ≤ 4294967295) × (standIn x t (sectors n part 0 m) Nothing ≡ standIn k t (sectors n part 0 m) Nothing)
 
 abbrev μ-loop : tie.MeasureT-loop
-μ-loop part n m k t best₀ i₀ best i = m - i
+μ-loop part n m k t x₀ x = 4294967296 - x
 
-loop-holds : tie.Need-loop-holds Inv-loop μ-loop
-loop-holds c = (search needs, rw sub-zero)
+least-requires : tie.Need-least-requires Inv-loop μ-loop
+least-requires c κs = let o = c .before .before in (o .pre .0, o .pre .1, (isData, o .pre .2))
 
--- what the sector read says of the whole pass
-turn-at : (q : tie.After-at Inv-loop μ-loop) →
-    let turn = q .before in
-    let a = turn .before .before .before .args in
-    let i = turn .before .loop .i in
-    standIn (a .k) (a .t) (q .at .result ∷ sectors (a .n) (now (a .part)) (i + 1) (a .m - (i + 1))) (turn .before .loop .best)
-    ≡ standIn (a .k) (a .t) (sectors (a .n) (now (a .part)) 0 (a .m)) Nothing
-turn-at q =
-    let turn = q .before in
-    let a = turn .before .before .before .args in
-    sectors-turn (λ l. standIn (a .k) (a .t) l (turn .before .loop .best)) (a .n) (a .m) (turn .before .loop .i) (now (a .part)) _ _
-    (turn .loop-test .taken) (q .at .ensures) (turn .before .loop .inv .1)
+-- the key found is above the last
+rises : (q : tie.After-key-of Inv-loop μ-loop) → q .before .before .before .before .before .before .before .loop .x < q .key-of .result
+rises q =
+    let at-found = q .before .before .before .before in
+    let at-least = at-found .before .before in
+    let turn = at-least .before in
+    let o = turn .before .before in
+    rw (q .key-of .ensures .0) (next-rises isData (sectors (o .args .n) (now (o .args .part)) 0 (o .args .m)) (o .pre .2) (turn .loop .x) (o .args .t) _ _ (at-least .least .ensures) (at-found .found .given .1))
 
-returns : tie.Need-returns Inv-loop μ-loop
-returns c = stand-other _ _ _ _ _ (c .match .keys2) ∙ turn-at (c .before)
+loop-less : tie.Need-loop-less Inv-loop μ-loop
+loop-less c = let up = rises c in omega arith
 
 loop-again : tie.Need-loop-again Inv-loop μ-loop
-unfolding standIn
-loop-again c = (search needs, rw (c .pick-next .ensures) (rw (c .before .before .s .given .1) at (turn-at (c .before .before .before .before))))
+unfolding isPost
+loop-again c =
+    let at-found = c .before .before .before .before in
+    let at-least = at-found .before .before in
+    let turn = at-least .before in
+    let o = turn .before .before in
+    let again = strike-next isData (sectors (o .args .n) (now (o .args .part)) 0 (o .args .m)) (o .pre .2) (turn .loop .x) (o .args .t) _ _ (at-least .least .ensures) (at-found .found .given .1) (ne-eqb _ _ (c .before .if1 .left)) in
+    (c .key-of .ensures .1, rw (c .key-of .ensures .0) (sym again ∙ turn .loop .inv .1))
+
+returns : tie.Need-returns Inv-loop μ-loop
+returns c =
+    let at-least = c .before in
+    let turn = at-least .before in
+    let o = turn .before .before in
+    none-next isData (sectors (o .args .n) (now (o .args .part)) 0 (o .args .m)) (o .pre .2) (turn .loop .x) (o .args .t) _ (at-least .least .ensures) (c .match .keys2) ∙ turn .loop .inv .1
 
 returns-2 : tie.Need-returns-2 Inv-loop μ-loop
-unfolding standIn
+unfolding isPost
 returns-2 c =
-    let a = c .before .before .before .args in
-    rw (sectors-end (a .n) (a .m) (c .before .loop .i) (now (a .part)) (c .loop-test .left)) at (c .before .loop .inv .1)
+    let at-found = c .before .before .before in
+    let at-least = at-found .before .before in
+    let turn = at-least .before in
+    let o = turn .before .before in
+    post-next isData (sectors (o .args .n) (now (o .args .part)) 0 (o .args .m)) (o .pre .2) (turn .loop .x) (o .args .t) _ _ (at-least .least .ensures) (at-found .found .given .1) (eq-eqb _ _ (c .if1 .taken)) ∙ turn .loop .inv .1
 
 pub standing-spec : {M : Type 1} → statement M
 standing-spec =
     tie.close
-    (tie.spec Inv-loop μ-loop loop-holds (λ c κs. search needs) (λ c. search needs) returns (λ c. search needs)
-    (λ c κs. search needs) (λ c. search needs) (λ c. search needs) loop-again returns-2)
+    (tie.spec Inv-loop μ-loop (λ c. (search needs, refl)) least-requires (λ c. search needs) (λ c κs. search needs)
+    loop-less loop-again returns returns-2)

@@ -1,5 +1,5 @@
 -- `next::picks::beats` meets its contract.
-use Rattle.next.specs.Nearer.{beats}
+use Rattle.next.specs.Ranks.{beats}
 use borrow.Author.Needs.{needs}
 use Rattle.next.proofs.picks.beats.Statement.{statement}
 use Rattle.next.proofs.picks.beats.Tie as tie
