@@ -87,7 +87,7 @@ extern "C" {
 #define CARD_NOW UINT32_C(4294967295)
 
 /* Bytes of stack that suffice for any call: see Stack above. */
-#define CARD_STACK_OURS 32768
+#define CARD_STACK_OURS 8192
 #define CARD_STACK_ANY 524288
 
 /* The answer numbers. */
