@@ -128,9 +128,9 @@ fn along(card: &mut [u8], head: Head, e: Entry, used: usize, path: &mut [u32]) -
 
 fn on_short_path(card: &mut [u8], head: Head, e: Entry, used: usize) -> Outcome
     requires { ⌜ (headOf (now card) ≡ some head) × (e .kind < 256) × (used ≡ topUsed head (now card) (head .n)) ⌝ }
-    ensures { λ r. ⌜ Tried r 32 (head .n) (now (card .entry)) (now (card .exit)) (planAt head (now (card .entry)) e (walk head (now (card .entry)) 4294967295 (e .key))) ⌝ }
+    ensures { λ r. ⌜ Tried r 16 (head .n) (now (card .entry)) (now (card .exit)) (planAt head (now (card .entry)) e (walk head (now (card .entry)) 4294967295 (e .key))) ⌝ }
 {
-    let mut path = [0u32; 32];
+    let mut path = [0u32; 16];
     along(card, head, e, used, &mut path)
 }
 
