@@ -98,7 +98,8 @@ pub struct Outcome {
     pub answer: Answer,
 }
 
-// The entry in its bucket, or what refuses it from the walk on, where the path that was lent has places enough. `used` is the highest bucket with a nonzero byte.
+// The entry in its bucket, or what refuses it from the walk on, where the path that was lent has places enough.
+// `used` is the highest bucket with a nonzero byte.
 fn along(card: &mut [u8], head: Head, e: Entry, used: usize, path: &mut [u32]) -> Outcome
     requires { ⌜ (headOf (now card) ≡ some head) × (e .kind < 256) × (used ≡ topUsed head (now card) (head .n)) × (length (now path) ≤ 4096) ⌝ }
     ensures { λ r. ⌜ Tried r (length (now (path .entry))) (head .n) (now (card .entry)) (now (card .exit)) (planAt head (now (card .entry)) e (walk head (now (card .entry)) 4294967295 (e .key))) ⌝ }
@@ -152,8 +153,8 @@ pub struct Task {
     pub deep: bool,
 }
 
-// The entry in its bucket, or what refuses it from the walk on. A short path is tried first, which every card of ours
-// is content with; where the walk is deeper the function calls itself for the long one, so that only then its 16 KiB lie on the stack.
+// The entry in its bucket, or what refuses it from the walk on. A short path is tried first, since a card of ours is a few
+// buckets deep. Where it does not do the function calls itself for the long one, whose 16 KiB so stay out of its own frame.
 fn insert(card: &mut [u8], head: Head, task: Task) -> Answer
     requires { ⌜ (headOf (now card) ≡ some head) × (task .entry .kind < 256) × (task .used ≡ topUsed head (now card) (head .n)) ⌝ }
     ensures { λ r. ⌜ r ≡ planAnswer (planAt head (now (card .entry)) (task .entry) (walk head (now (card .entry)) 4294967295 (task .entry .key))) ⌝ }
