@@ -1,6 +1,6 @@
 //! A bucket or the log, judged whole: a run of entries that belong together, then blanks.
 
-use crate::sector::{all_zero, decode, number, sectors, Bytes, Entry, Kind, Sector};
+use crate::sector::{all_blank, decode, number, sectors, Bytes, Entry, Kind, Sector};
 
 /// The written run of a bucket or log that is not damaged.
 #[derive(Clone, Copy)]
@@ -29,7 +29,7 @@ impl<'a> Run<'a> {
             }
         }
         let (written, rest) = sectors(part).split_at(end);
-        (end > 0 && all_zero(rest.as_flattened())).then_some(Run { written, blanks: rest.len(), buckets })
+        (end > 0 && all_blank(rest)).then_some(Run { written, blanks: rest.len(), buckets })
     }
 
     /// The log holds only root entries.

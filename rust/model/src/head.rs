@@ -1,6 +1,6 @@
 //! The card's head: its geometry, and where the log and the buckets lie.
 
-use crate::sector::{all_zero, number, SECTOR};
+use crate::sector::{number, SECTOR};
 
 pub const MOST_SECTORS: usize = 32;
 pub const MOST_BUCKETS: usize = 4096;
@@ -38,8 +38,8 @@ impl Head {
             ti: first[3].into(),
             buckets: number(first, 4),
         };
-        let kept =
-            first[0] == 6 && all_zero(&first[8..]) && head.within_limits() && card.len() == head.length();
+        let rest_zero = number(first, 8) == 0 && number(first, 12) == 0;
+        let kept = first[0] == 6 && rest_zero && head.within_limits() && card.len() == head.length();
         kept.then_some(head)
     }
 

@@ -4,7 +4,6 @@ use crate::bucket::Run;
 use crate::head::{Head, MOST_SECTORS};
 use crate::row::Row;
 use crate::sector::{encode, Entry, Kind, SECTOR};
-use crate::survey::highest_used;
 
 /// What goes up to a bucket: the call's entry, or the pairs of one or two new buckets.
 type Sent = Row<2>;
@@ -12,9 +11,9 @@ type Sent = Row<2>;
 /// The entries in hand: those of a full bucket and what was sent to it.
 type Hand = Row<{ MOST_SECTORS + 2 }>;
 
-/// Writes `entry` over the buckets of its path, root first. `None` if the card has too few fresh buckets
-/// or no blank log sector for a new root; then nothing is written.
-pub fn write(card: &mut [u8], head: &Head, path: &[u32], entry: Entry) -> Option<()> {
+/// Writes `entry` over the buckets of its path, root first; fresh ones come after `last_bucket`. `None` if
+/// the card has too few of them or no blank log sector for a new root; then nothing is written.
+pub fn write(card: &mut [u8], head: &Head, path: &[u32], last_bucket: u32, entry: Entry) -> Option<()> {
     let (&data, _) = path.split_last()?;
     let run = judged(card, head, data);
     if run.blanks() > 0 {
@@ -22,7 +21,6 @@ pub fn write(card: &mut [u8], head: &Head, path: &[u32], entry: Entry) -> Option
         encode(entry, &mut card[place..place + SECTOR]);
         return Some(());
     }
-    let last_bucket = highest_used(card, head);
     // once without writing, since a refusal leaves the card as it was
     for writing in [false, true] {
         Climb { card, head, stamp: entry.stamp, last_bucket, writing }.up(path, entry)?;

@@ -1,7 +1,7 @@
 //! What a card that is opened again says of itself.
 
 use crate::head::Head;
-use crate::survey::{highest_used, largest_stamp};
+use crate::survey::Survey;
 
 #[derive(Clone, Copy, Debug, Default, PartialEq, Eq)]
 pub struct State {
@@ -18,6 +18,7 @@ pub struct State {
 /// The head's numbers, the largest stamp as answer 3 reads it, and the bucket that fresh ones come after.
 pub fn state(card: &[u8]) -> State {
     let Some(head) = Head::of(card) else { return State { code: 1, ..State::default() } };
+    let survey = Survey::of(card, &head);
     State {
         code: 0,
         buckets: head.buckets,
@@ -25,7 +26,7 @@ pub fn state(card: &[u8]) -> State {
         td: head.td,
         ti: head.ti,
         begin: 0,
-        last: largest_stamp(card, &head),
-        used: highest_used(card, &head),
+        last: survey.largest_stamp(),
+        used: survey.highest_used(),
     }
 }

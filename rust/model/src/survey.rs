@@ -1,21 +1,43 @@
 //! What the whole bucket area says: the largest stamp, and the highest bucket used.
 
 use crate::head::Head;
-use crate::sector::{all_zero, number, sectors};
+use crate::sector::{number, sectors, up_to_blank_end, Bytes};
 
-/// The largest stamp field of any bucket sector with nonzero kind, or 0.
-pub fn largest_stamp(card: &[u8], head: &Head) -> u32 {
-    let mut largest = 0;
-    for sector in sectors(&card[head.area()..]) {
-        let stamp = number(sector, 8);
-        if sector[0] != 0 && stamp > largest {
-            largest = stamp;
-        }
-    }
-    largest
+/// The bucket area without its blank end.
+pub struct Survey<'a> {
+    written: &'a [Bytes],
+    bucket_sectors: usize,
 }
 
-/// The highest bucket with a nonzero byte, or 0.
-pub fn highest_used(card: &[u8], head: &Head) -> u32 {
-    (1..=head.buckets).rev().find(|&bucket| !all_zero(head.bucket(card, bucket))).unwrap_or(0)
+impl<'a> Survey<'a> {
+    pub fn of(card: &'a [u8], head: &Head) -> Survey<'a> {
+        let written = up_to_blank_end(sectors(&card[head.area()..]));
+        Survey { written, bucket_sectors: head.sectors as usize }
+    }
+
+    /// The largest stamp field of any bucket sector with nonzero kind, or 0.
+    pub fn largest_stamp(&self) -> u32 {
+        let stamps = self.written.iter().map(|sector| if sector[0] == 0 { 0 } else { number(sector, 8) });
+        stamps.max().unwrap_or(0)
+    }
+
+    /// Whether a stamp is above that largest one. Mostly no stamp field at all reaches it, and then
+    /// the kinds, which cost as much again to read, do not matter.
+    pub fn is_below(&self, stamp: u32) -> bool {
+        stamp > 0 && (self.no_field_reaches(stamp) || self.largest_stamp() < stamp)
+    }
+
+    /// Whether every stamp field, of a sector of whatever kind, is below `stamp`. Sixteen sectors
+    /// at a time without a way out, which the compiler does several at a time.
+    fn no_field_reaches(&self, stamp: u32) -> bool {
+        let reaches = |sector: &Bytes| number(sector, 8) >= stamp;
+        let (wide, rest) = self.written.as_chunks::<16>();
+        !wide.iter().any(|sectors| sectors.iter().fold(false, |any, sector| any | reaches(sector)))
+            && !rest.iter().any(reaches)
+    }
+
+    /// The highest bucket with a nonzero byte, or 0.
+    pub fn highest_used(&self) -> u32 {
+        self.written.len().div_ceil(self.bucket_sectors) as u32
+    }
 }

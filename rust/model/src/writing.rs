@@ -4,8 +4,8 @@ use crate::answer::Answer;
 use crate::head::{Head, MOST_BUCKETS};
 use crate::reading::standing;
 use crate::rewrite;
-use crate::sector::{all_zero, encode, Entry, Kind, SECTOR};
-use crate::survey::largest_stamp;
+use crate::sector::{all_blank, encode, sectors as sectors_of, Entry, Kind, SECTOR};
+use crate::survey::Survey;
 use crate::walk::walk;
 
 /// Writes walk with this t: no entry is later.
@@ -24,7 +24,7 @@ pub fn format(card: &mut [u8], buckets: u32, sectors: u32, td: u32, ti: u32) -> 
     if !meant.within_limits() || card.len() != meant.length() {
         return Answer::refused(8);
     }
-    if !all_zero(card) {
+    if !all_blank(sectors_of(card)) {
         return Answer::refused(9);
     }
     meant.write(card);
@@ -60,9 +60,11 @@ fn entered(card: &mut [u8], entry: Entry) -> Result<(), u32> {
     if entry.key == 0 {
         return Err(2);
     }
-    if entry.stamp <= largest_stamp(card, &head) {
+    let survey = Survey::of(card, &head);
+    if !survey.is_below(entry.stamp) {
         return Err(3);
     }
+    let last_bucket = survey.highest_used();
     let mut path = [0; MOST_BUCKETS];
     let mut met = 0;
     let reached = walk(card, &head, entry.key, NOW, |bucket, _| {
@@ -73,5 +75,5 @@ fn entered(card: &mut [u8], entry: Entry) -> Result<(), u32> {
     if entry.kind == Kind::Strike && standing(&reached.data, entry.key, NOW).is_none() {
         return Err(5);
     }
-    rewrite::write(card, &head, &path[..met], entry).ok_or(6)
+    rewrite::write(card, &head, &path[..met], last_bucket, entry).ok_or(6)
 }
