@@ -1,6 +1,6 @@
 //! The card's head: its geometry, and where the log and the buckets lie.
 
-use crate::sector::{number, SECTOR};
+use crate::sector::{number, sectors, Bytes, SECTOR};
 
 pub const MOST_SECTORS: usize = 32;
 pub const MOST_BUCKETS: usize = 4096;
@@ -65,12 +65,12 @@ impl Head {
         SECTOR * (1 + self.buckets as usize)
     }
 
-    pub fn log<'a>(&self, card: &'a [u8]) -> &'a [u8] {
-        &card[SECTOR..self.area()]
+    pub fn log<'a>(&self, card: &'a [u8]) -> &'a [Bytes] {
+        sectors(&card[SECTOR..self.area()])
     }
 
-    pub fn bucket<'a>(&self, card: &'a [u8], bucket: u32) -> &'a [u8] {
+    pub fn bucket<'a>(&self, card: &'a [u8], bucket: u32) -> &'a [Bytes] {
         let from = self.place(bucket, 0);
-        &card[from..from + self.bucket_bytes()]
+        sectors(&card[from..from + self.bucket_bytes()])
     }
 }

@@ -1,33 +1,23 @@
 //! The two calls that only read: look and next.
 
 use crate::answer::Answer;
-use crate::bucket::Run;
+use crate::bucket::{Log, Run, Searched};
 use crate::head::Head;
-use crate::sector::{Entry, Kind};
+use crate::sector::{Entry, POST};
 use crate::walk::walk;
 
-/// The last copy of `bib` as of `t`, if it is a post.
-pub fn standing(data: &Run, bib: u32, t: u32) -> Option<Entry> {
-    data.as_of(t).filter(|entry| entry.key == bib).last().filter(|entry| entry.kind == Kind::Post)
+/// The last copy of `bib` in a data bucket searched for it, if it is a post.
+pub fn standing(data: &Searched, bib: u32) -> Option<Entry> {
+    data.at_most().filter(|entry| entry.key == bib && entry.kind == POST)
 }
 
 /// The smallest bib above `bib` whose last copy as of `t` is a post, with that post.
 fn smallest_above(data: &Run, bib: u32, t: u32) -> Option<Entry> {
-    let mut above = bib;
-    loop {
-        // the last copy of the smallest key above: a later equal key takes the place of the former
-        let last = data.as_of(t).filter(|entry| entry.key > above).reduce(|best, entry| {
-            if entry.key <= best.key {
-                entry
-            } else {
-                best
-            }
-        })?;
-        if last.kind == Kind::Post {
-            return Some(last);
-        }
-        above = last.key;
+    let mut last = data.above(bib, t)?;
+    while last.kind != POST {
+        last = data.above(last.key, t)?;
     }
+    Some(last)
 }
 
 fn record(entry: Entry, reads: u32) -> Answer {
@@ -40,32 +30,42 @@ pub fn look(card: &[u8], bib: u32, at: u32) -> Answer {
     if bib == 0 {
         return Answer::refused(2);
     }
-    let Some(reached) = walk(card, &head, bib, at, |_, _| ()) else { return Answer::refused(4) };
-    match standing(&reached.data, bib, at) {
+    looked(card, &head, bib, at).unwrap_or(Answer::refused(4))
+}
+
+/// `None` is damage met on the log or path.
+fn looked(card: &[u8], head: &Head, bib: u32, at: u32) -> Option<Answer> {
+    let log = Log::judged(head.log(card), head.buckets, at)?;
+    let reached = walk(card, head, log.root, (bib, at), |_, _| ())?;
+    Some(match standing(&reached.data, bib) {
         Some(post) => record(post, reached.reads),
         None => Answer { bib, reads: reached.reads, ..Answer::ACCEPTED },
-    }
+    })
 }
 
 /// The record of the smallest standing bib above `bib` as of `at`.
 pub fn next(card: &[u8], bib: u32, at: u32) -> Answer {
     let Some(head) = Head::of(card) else { return Answer::refused(1) };
+    scrolled(card, &head, bib, at).unwrap_or(Answer::refused(4))
+}
+
+/// `None` is damage met on the log or a path.
+fn scrolled(card: &[u8], head: &Head, bib: u32, at: u32) -> Option<Answer> {
+    let log = Log::judged(head.log(card), head.buckets, at)?;
     let mut x = bib;
     loop {
         let mut further = None;
-        let reached = walk(card, &head, x, at, |_, run| {
-            if run.is_index() {
-                let above = run.as_of(at).map(|entry| entry.key).filter(|&key| key > x).min();
-                further = further.into_iter().chain(above).min();
+        let reached = walk(card, head, log.root, (x, at), |_, searched| {
+            if searched.run.is_index() {
+                further = further.into_iter().chain(searched.key_above()).min();
             }
-        });
-        let Some(reached) = reached else { return Answer::refused(4) };
-        if let Some(post) = smallest_above(&reached.data, bib, at) {
-            return record(post, 0);
+        })?;
+        if let Some(post) = smallest_above(&reached.data.run, bib, at) {
+            return Some(record(post, 0));
         }
         match further {
             Some(key) => x = key,
-            None => return Answer::ACCEPTED,
+            None => return Some(Answer::ACCEPTED),
         }
     }
 }

@@ -3,7 +3,7 @@
 use crate::bucket::Run;
 use crate::head::{Head, MOST_SECTORS};
 use crate::row::Row;
-use crate::sector::{encode, Entry, Kind, SECTOR};
+use crate::sector::{sectors_mut, Entry, INDEX, ROOT, SECTOR, STRIKE};
 
 /// What goes up to a bucket: the call's entry, or the pairs of one or two new buckets.
 type Sent = Row<2>;
@@ -11,34 +11,29 @@ type Sent = Row<2>;
 /// The entries in hand: those of a full bucket and what was sent to it.
 type Hand = Row<{ MOST_SECTORS + 2 }>;
 
-/// Writes `entry` over the buckets of its path, root first; fresh ones come after `last_bucket`. `None` if
-/// the card has too few of them or no blank log sector for a new root; then nothing is written.
-pub fn write(card: &mut [u8], head: &Head, path: &[u32], last_bucket: u32, entry: Entry) -> Option<()> {
-    let (&data, _) = path.split_last()?;
-    let run = judged(card, head, data);
-    if run.blanks() > 0 {
-        let place = head.place(data, run.len());
-        encode(entry, &mut card[place..place + SECTOR]);
-        return Some(());
-    }
-    // once without writing, since a refusal leaves the card as it was
-    for writing in [false, true] {
-        Climb { card, head, stamp: entry.stamp, last_bucket, writing }.up(path, entry)?;
-    }
-    Some(())
+/// What is taken already: buckets up to the highest used, and the log's written sectors.
+#[derive(Clone, Copy)]
+pub struct Taken {
+    pub buckets: u32,
+    pub log: usize,
 }
 
-/// A bucket of the path, which the walk has found sound.
-fn judged<'a>(card: &'a [u8], head: &Head, bucket: u32) -> Run<'a> {
-    Run::bucket(head.bucket(card, bucket), head.buckets).expect("the walk judged it")
+/// Writes `entry` over the buckets of its path, root first. `None` if the card has too few fresh buckets
+/// or no blank log sector for a new root; then nothing is written.
+pub fn write(card: &mut [u8], head: &Head, taken: Taken, path: &[u32], entry: Entry) -> Option<()> {
+    // once without writing, since a refusal leaves the card as it was
+    for writing in [false, true] {
+        Climb { card, head, taken, stamp: entry.stamp, writing }.up(path, entry)?;
+    }
+    Some(())
 }
 
 /// The way from the data bucket to the level that has room.
 struct Climb<'a> {
     card: &'a mut [u8],
     head: &'a Head,
+    taken: Taken,
     stamp: u32,
-    last_bucket: u32,
     writing: bool,
 }
 
@@ -47,7 +42,7 @@ impl Climb<'_> {
         let mut sent = Sent::new();
         sent.push(entry);
         for &bucket in path.iter().rev() {
-            let run = judged(self.card, self.head, bucket);
+            let run = Run::known(self.head.bucket(self.card, bucket));
             let from = run.len();
             if run.blanks() >= sent.entries().len() {
                 self.lay(self.head.place(bucket, from), sent.entries());
@@ -63,20 +58,20 @@ impl Climb<'_> {
     /// Entries one after the other from a place of the card on.
     fn lay(&mut self, from: usize, entries: &[Entry]) {
         if self.writing {
-            for (entry, sector) in entries.iter().zip(self.card[from..].chunks_mut(SECTOR)) {
-                encode(*entry, sector);
+            for (entry, sector) in entries.iter().zip(sectors_mut(&mut self.card[from..])) {
+                entry.write(sector);
             }
         }
     }
 
     /// Writes `entries` to the next fresh bucket and gives the pair that leads to it.
     fn fresh(&mut self, entries: &[Entry]) -> Option<Entry> {
-        if self.last_bucket == self.head.buckets {
+        if self.taken.buckets == self.head.buckets {
             return None;
         }
-        self.last_bucket += 1;
-        self.lay(self.head.place(self.last_bucket, 0), entries);
-        Some(Entry { kind: Kind::Index, key: entries[0].key, stamp: self.stamp, value: self.last_bucket })
+        self.taken.buckets += 1;
+        self.lay(self.head.place(self.taken.buckets, 0), entries);
+        Some(Entry { kind: INDEX, key: entries[0].key, stamp: self.stamp, value: self.taken.buckets })
     }
 
     /// One or two fresh buckets for what was kept; their pairs, low first.
@@ -98,12 +93,10 @@ impl Climb<'_> {
             [one] => *one,
             both => self.fresh(both)?,
         };
-        let log = Run::log(self.head.log(self.card), self.head.buckets)?;
-        if log.blanks() == 0 {
+        if self.taken.log == self.head.buckets as usize {
             return None;
         }
-        let place = SECTOR * (1 + log.len());
-        self.lay(place, &[Entry { kind: Kind::Root, key: 0, ..top }]);
+        self.lay(SECTOR * (1 + self.taken.log), &[Entry { kind: ROOT, key: 0, ..top }]);
         Some(())
     }
 }
@@ -116,6 +109,6 @@ fn kept(run: &Run, sent: &[Entry]) -> Hand {
         hand.put_in_order(entry);
     }
     let (header, added) = (run.header(), sent[0].key);
-    hand.retain(|entry| entry.kind != Kind::Strike || entry.key == header || entry.key == added);
+    hand.retain(|entry| entry.kind != STRIKE || entry.key == header || entry.key == added);
     hand
 }

@@ -1,34 +1,74 @@
-//! One sector of sixteen bytes: blank, an entry or damaged.
+//! One sector of sixteen bytes, and what the table asks of each kind.
 
 pub const SECTOR: usize = 16;
 
 pub type Bytes = [u8; SECTOR];
 
-#[derive(Clone, Copy, Debug, PartialEq, Eq)]
-pub enum Kind {
-    Post = 1,
-    Strike = 2,
-    Index = 3,
-    Root = 4,
-}
+pub const POST: u32 = 1;
+pub const STRIKE: u32 = 2;
+pub const INDEX: u32 = 3;
+pub const ROOT: u32 = 4;
 
+/// The four numbers of a sector. The kind is read with the three zero bytes behind it, so that one
+/// comparison asks for them all; 0 is the kind of a blank, and of nothing else that is sound.
 #[derive(Clone, Copy, Debug, PartialEq, Eq)]
 pub struct Entry {
-    pub kind: Kind,
+    pub kind: u32,
     pub key: u32,
     pub stamp: u32,
     pub value: u32,
 }
 
-pub enum Sector {
-    Blank,
-    Entry(Entry),
-    Damaged,
+impl Entry {
+    pub fn of(sector: &Bytes) -> Entry {
+        Entry {
+            kind: number(sector, 0),
+            key: number(sector, 4),
+            stamp: number(sector, 8),
+            value: number(sector, 12),
+        }
+    }
+
+    /// Bib and stamp from 1.
+    fn is_sound_post(&self) -> bool {
+        self.kind == POST && self.key >= 1 && self.stamp >= 1
+    }
+
+    /// Bib 0 only with stamp 0, value 0.
+    fn is_sound_strike(&self) -> bool {
+        self.kind == STRIKE && self.value == 0 && (self.key != 0 || self.stamp == 0)
+    }
+
+    pub fn is_sound_data(&self) -> bool {
+        self.is_sound_post() || self.is_sound_strike()
+    }
+
+    /// The value is a bucket of the card.
+    pub fn is_sound_index(&self, buckets: u32) -> bool {
+        self.kind == INDEX && (1..=buckets).contains(&self.value)
+    }
+
+    /// Key 0, and the value is a bucket of the card.
+    pub fn is_sound_root(&self, buckets: u32) -> bool {
+        self.kind == ROOT && self.key == 0 && (1..=buckets).contains(&self.value)
+    }
+
+    /// Writes the entry over a blank sector.
+    pub fn write(&self, sector: &mut Bytes) {
+        let (numbers, _) = sector.as_chunks_mut::<4>();
+        for (bytes, number) in numbers.iter_mut().zip([self.kind, self.key, self.stamp, self.value]) {
+            *bytes = number.to_le_bytes();
+        }
+    }
 }
 
 /// A part of the card as its sectors.
 pub fn sectors(part: &[u8]) -> &[Bytes] {
     part.as_chunks().0
+}
+
+pub fn sectors_mut(part: &mut [u8]) -> &mut [Bytes] {
+    part.as_chunks_mut().0
 }
 
 /// The 32-bit number at byte `from` of a sector.
@@ -59,35 +99,4 @@ pub fn up_to_blank_end(sectors: &[Bytes]) -> &[Bytes] {
 /// Byte by byte into one, without a way out, which the compiler does many bytes at a time.
 fn wide_blank(sectors: &[Bytes; WIDE]) -> bool {
     sectors.as_flattened().iter().fold(0, |any, byte| any | byte) == 0
-}
-
-/// What a sector past the head is, on a card of `buckets` buckets.
-pub fn decode(sector: &Bytes, buckets: u32) -> Sector {
-    if *sector == [0; SECTOR] {
-        return Sector::Blank;
-    }
-    if sector[1..4] != [0; 3] {
-        return Sector::Damaged;
-    }
-    let (key, stamp, value) = (number(sector, 4), number(sector, 8), number(sector, 12));
-    let (kind, sound) = match sector[0] {
-        1 => (Kind::Post, key >= 1 && stamp >= 1),
-        2 => (Kind::Strike, value == 0 && (key != 0 || stamp == 0)),
-        3 => (Kind::Index, (1..=buckets).contains(&value)),
-        4 => (Kind::Root, key == 0 && (1..=buckets).contains(&value)),
-        _ => return Sector::Damaged,
-    };
-    if sound {
-        Sector::Entry(Entry { kind, key, stamp, value })
-    } else {
-        Sector::Damaged
-    }
-}
-
-/// Writes an entry over a blank sector.
-pub fn encode(entry: Entry, sector: &mut [u8]) {
-    sector[0] = entry.kind as u8;
-    sector[4..8].copy_from_slice(&entry.key.to_le_bytes());
-    sector[8..12].copy_from_slice(&entry.stamp.to_le_bytes());
-    sector[12..16].copy_from_slice(&entry.value.to_le_bytes());
 }

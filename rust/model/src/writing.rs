@@ -1,10 +1,13 @@
 //! The three calls that write: format, post and strike.
 
 use crate::answer::Answer;
+use crate::bucket::Log;
 use crate::head::{Head, MOST_BUCKETS};
 use crate::reading::standing;
-use crate::rewrite;
-use crate::sector::{all_blank, encode, sectors as sectors_of, Entry, Kind, SECTOR};
+use crate::rewrite::{self, Taken};
+use crate::sector::{
+    all_blank, sectors as sectors_of, sectors_mut, Entry, INDEX, POST, ROOT, SECTOR, STRIKE,
+};
 use crate::survey::Survey;
 use crate::walk::walk;
 
@@ -29,22 +32,22 @@ pub fn format(card: &mut [u8], buckets: u32, sectors: u32, td: u32, ti: u32) -> 
     }
     meant.write(card);
     let first = |kind, value| Entry { kind, key: 0, stamp: 0, value };
-    encode(first(Kind::Root, 1), &mut card[SECTOR..2 * SECTOR]);
-    for (bucket, entry) in [(1, first(Kind::Index, 2)), (2, first(Kind::Strike, 0))] {
-        let from = meant.place(bucket, 0);
-        encode(entry, &mut card[from..from + SECTOR]);
+    let [bucket_1, bucket_2] = [1, 2].map(|bucket| meant.place(bucket, 0));
+    for (from, entry) in [(SECTOR, first(ROOT, 1)), (bucket_1, first(INDEX, 2)), (bucket_2, first(STRIKE, 0))]
+    {
+        entry.write(&mut sectors_mut(&mut card[from..])[0]);
     }
     Answer::ACCEPTED
 }
 
 /// A new time for `bib`, or a correction.
 pub fn post(card: &mut [u8], bib: u32, at: u32, time: u32) -> Answer {
-    write(card, Entry { kind: Kind::Post, key: bib, stamp: at, value: time })
+    write(card, Entry { kind: POST, key: bib, stamp: at, value: time })
 }
 
 /// Erases what stands for `bib`.
 pub fn strike(card: &mut [u8], bib: u32, at: u32) -> Answer {
-    write(card, Entry { kind: Kind::Strike, key: bib, stamp: at, value: 0 })
+    write(card, Entry { kind: STRIKE, key: bib, stamp: at, value: 0 })
 }
 
 fn write(card: &mut [u8], entry: Entry) -> Answer {
@@ -64,16 +67,17 @@ fn entered(card: &mut [u8], entry: Entry) -> Result<(), u32> {
     if !survey.is_below(entry.stamp) {
         return Err(3);
     }
-    let last_bucket = survey.highest_used();
+    let buckets = survey.highest_used();
+    let log = Log::judged(head.log(card), head.buckets, NOW).ok_or(4u32)?;
     let mut path = [0; MOST_BUCKETS];
     let mut met = 0;
-    let reached = walk(card, &head, entry.key, NOW, |bucket, _| {
+    let reached = walk(card, &head, log.root, (entry.key, NOW), |bucket, _| {
         path[met] = bucket;
         met += 1;
     });
     let reached = reached.ok_or(4u32)?;
-    if entry.kind == Kind::Strike && standing(&reached.data, entry.key, NOW).is_none() {
+    if entry.kind == STRIKE && standing(&reached.data, entry.key).is_none() {
         return Err(5);
     }
-    rewrite::write(card, &head, &path[..met], last_bucket, entry).ok_or(6)
+    rewrite::write(card, &head, Taken { buckets, log: log.len }, &path[..met], entry).ok_or(6)
 }
