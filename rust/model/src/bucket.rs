@@ -1,6 +1,7 @@
 //! A bucket or the log: a run of entries that belong together, then blanks. It is judged and searched
 //! in one pass.
 
+use crate::rank::Rank;
 use crate::sector::{all_blank, Bytes, Entry, INDEX};
 
 /// The written run of a bucket or log that is not damaged.
@@ -54,6 +55,10 @@ impl<'a> Run<'a> {
         self.written.len()
     }
 
+    fn entry(&self, place: Option<usize>) -> Option<Entry> {
+        place.and_then(|place| self.written.get(place)).map(Entry::of)
+    }
+
     pub fn entries(&self) -> impl Iterator<Item = Entry> + 'a {
         self.written.iter().map(Entry::of)
     }
@@ -62,7 +67,7 @@ impl<'a> Run<'a> {
     pub fn above(&self, key: u32, t: u32) -> Option<Entry> {
         let mut beside = Beside::new(key, t);
         self.entries().enumerate().for_each(|(place, entry)| beside.see(place, entry));
-        beside.above.of(self)
+        self.entry(beside.above.place())
     }
 }
 
@@ -99,27 +104,24 @@ impl<'a> Searched<'a> {
     /// is damage.
     pub fn judged(part: &'a [Bytes], buckets: u32, key: u32, t: u32) -> Option<Searched<'a>> {
         let first = Entry::of(part.first()?);
+        let index = first.kind == INDEX;
         let mut beside = Beside::new(key, t);
-        let mut fits = |place, entry: Entry| {
+        let run = Run::judged(part, |place, entry| {
             beside.see(place, entry);
-            entry.key >= first.key
-        };
-        let run = if first.kind == INDEX {
-            Run::judged(part, |place, entry| fits(place, entry) && entry.is_sound_index(buckets))?
-        } else {
-            Run::judged(part, |place, entry| fits(place, entry) && entry.is_sound_data())?
-        };
+            let sound = if index { entry.is_sound_index(buckets) } else { entry.is_sound_data() };
+            sound && entry.key >= first.key
+        })?;
         Some(Searched { run, beside })
     }
 
     /// The last copy of the largest key not above the one sought.
     pub fn at_most(&self) -> Option<Entry> {
-        self.beside.at_most.of(&self.run)
+        self.run.entry(self.beside.at_most.place())
     }
 
     /// The smallest key above the one sought.
     pub fn key_above(&self) -> Option<u32> {
-        self.beside.above.of(&self.run).map(|entry| entry.key)
+        self.run.entry(self.beside.above.place()).map(|entry| entry.key)
     }
 }
 
@@ -127,38 +129,22 @@ impl<'a> Searched<'a> {
 struct Beside {
     key: u32,
     t: u32,
-    at_most: Nearest,
-    above: Nearest,
-}
-
-/// The nearest key so far and the place of its last copy; a place past every run is none.
-struct Nearest {
-    key: u32,
-    place: usize,
-}
-
-impl Nearest {
-    fn of(&self, run: &Run) -> Option<Entry> {
-        run.written.get(self.place).map(Entry::of)
-    }
+    at_most: Rank,
+    above: Rank,
 }
 
 impl Beside {
     fn new(key: u32, t: u32) -> Beside {
-        let none = |key| Nearest { key, place: usize::MAX };
-        Beside { key, t, at_most: none(0), above: none(u32::MAX) }
+        Beside { key, t, at_most: Rank::NONE, above: Rank::NONE }
     }
 
-    /// Equal keys count: of copies the last decides. Both questions are asked without a way out, since
-    /// a guess at the answers would often be wrong.
+    /// Both questions are asked of every entry, without a way out: a guess at their answers would often
+    /// be wrong.
     fn see(&mut self, place: usize, entry: Entry) {
-        let Entry { key, stamp, .. } = entry;
-        let (counts, above) = (stamp <= self.t, key > self.key);
-        if counts & !above & (key >= self.at_most.key) {
-            self.at_most = Nearest { key, place };
-        }
-        if counts & above & (key <= self.above.key) {
-            self.above = Nearest { key, place };
-        }
+        let (counts, above) = (entry.stamp <= self.t, entry.key > self.key);
+        let lower = if counts & !above { Rank::of(entry.key, place) } else { Rank::NONE };
+        let upper = if counts & above { Rank::falling(entry.key, place) } else { Rank::NONE };
+        self.at_most = self.at_most.max(lower);
+        self.above = self.above.max(upper);
     }
 }

@@ -12,6 +12,7 @@ mod head;
 pub mod list;
 mod panel;
 pub mod paper;
+mod rank;
 mod reading;
 mod rewrite;
 mod row;
