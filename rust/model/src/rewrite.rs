@@ -21,11 +21,15 @@ pub struct Taken {
 /// Writes `entry` over the buckets of its path, root first. `None` if the card has too few fresh buckets
 /// or no blank log sector for a new root; then nothing is written.
 pub fn write(card: &mut [u8], head: &Head, taken: Taken, path: &[u32], entry: Entry) -> Option<()> {
-    // once without writing, since a refusal leaves the card as it was
-    for writing in [false, true] {
-        Climb { card, head, taken, stamp: entry.stamp, writing }.up(path, entry)?;
+    // two buckets for each level and one above them are the most that a write takes
+    let most = taken.buckets as usize + 2 * path.len() + 1;
+    let sure = most <= head.buckets as usize && taken.log < head.buckets as usize;
+    let mut climb = |writing| Climb { card, head, taken, stamp: entry.stamp, writing }.up(path, entry);
+    if !sure {
+        // once without writing, since a refusal leaves the card as it was
+        climb(false)?;
     }
-    Some(())
+    climb(true)
 }
 
 /// The way from the data bucket to the level that has room.
