@@ -14,6 +14,10 @@ use crate::walk::walk;
 /// Writes walk with this t: no entry is later.
 const NOW: u32 = u32::MAX;
 
+/// No card of ours has a longer path; a foreign one may, and then its walk is made again with a path as
+/// long as any card's, which takes time to lay out.
+const USUAL_LEVELS: usize = 32;
+
 /// Makes a blank card an empty one.
 pub fn format(card: &mut [u8], buckets: u32, sectors: u32, td: u32, ti: u32) -> Answer {
     // a geometry past the limits is refused below; the bound keeps the products small
@@ -69,15 +73,37 @@ fn entered(card: &mut [u8], entry: Entry) -> Result<(), u32> {
     }
     let buckets = survey.highest_used();
     let log = Log::judged(head.log(card), head.buckets, NOW).ok_or(4u32)?;
-    let mut path = [0; MOST_BUCKETS];
-    let mut met = 0;
-    let reached = walk(card, &head, log.root, (entry.key, NOW), |bucket, _| {
-        path[met] = bucket;
-        met += 1;
+    let taken = Taken { buckets, log: log.len };
+    let levels = along::<USUAL_LEVELS>(card, &head, log.root, taken, entry)?;
+    if levels > USUAL_LEVELS {
+        along::<MOST_BUCKETS>(card, &head, log.root, taken, entry)?;
+    }
+    Ok(())
+}
+
+/// Writes the entry along its path, or gives the refusal, and the buckets of the path. If these are more
+/// than `MOST`, nothing is written.
+fn along<const MOST: usize>(
+    card: &mut [u8],
+    head: &Head,
+    root: u32,
+    taken: Taken,
+    entry: Entry,
+) -> Result<usize, u32> {
+    let mut path = [0; MOST];
+    let mut levels = 0;
+    let reached = walk(card, head, root, (entry.key, NOW), |bucket, _| {
+        if let Some(place) = path.get_mut(levels) {
+            *place = bucket;
+        }
+        levels += 1;
     });
     let reached = reached.ok_or(4u32)?;
     if entry.kind == STRIKE && standing(&reached.data, entry.key).is_none() {
         return Err(5);
     }
-    rewrite::write(card, &head, Taken { buckets, log: log.len }, &path[..met], entry).ok_or(6)
+    if let Some(path) = path.get(..levels) {
+        rewrite::write(card, head, taken, path, entry).ok_or(6u32)?;
+    }
+    Ok(levels)
 }
