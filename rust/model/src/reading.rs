@@ -4,7 +4,7 @@ use crate::answer::Answer;
 use crate::bucket::{Log, Run, Searched};
 use crate::head::Head;
 use crate::sector::{Entry, POST};
-use crate::walk::walk;
+use crate::walk::{walk, Place};
 
 /// The last copy of `bib` in a data bucket searched for it, if it is a post.
 pub fn standing(data: &Searched, bib: u32) -> Option<Entry> {
@@ -36,7 +36,7 @@ pub fn look(card: &[u8], bib: u32, at: u32) -> Answer {
 /// `None` is damage met on the log or path.
 fn looked(card: &[u8], head: &Head, bib: u32, at: u32) -> Option<Answer> {
     let log = Log::judged(head.log(card), head.buckets, at)?;
-    let reached = walk(card, head, log.root, (bib, at), |_, _| ())?;
+    let reached = walk(card, head, Place::root(log.root), (bib, at), |_, _| ())?;
     Some(match standing(&reached.data, bib) {
         Some(post) => record(post, reached.reads),
         None => Answer { bib, reads: reached.reads, ..Answer::ACCEPTED },
@@ -49,22 +49,36 @@ pub fn next(card: &[u8], bib: u32, at: u32) -> Answer {
     scrolled(card, &head, bib, at).unwrap_or(Answer::refused(4))
 }
 
+/// Where a walk to the next index key leaves the walk before it. Over the uppermost bucket that has this
+/// key no key lies between the two keys sought, so that both walks go the same way down to there.
+#[derive(Clone, Copy)]
+struct Turn {
+    /// The smallest index key above the one sought, on the path.
+    key: u32,
+    /// The uppermost bucket that has it.
+    place: Place,
+    /// The smallest such key over that bucket.
+    over: Option<u32>,
+}
+
 /// `None` is damage met on the log or a path.
 fn scrolled(card: &[u8], head: &Head, bib: u32, at: u32) -> Option<Answer> {
-    let log = Log::judged(head.log(card), head.buckets, at)?;
-    let mut x = bib;
+    let root = Place::root(Log::judged(head.log(card), head.buckets, at)?.root);
+    let mut from = Turn { key: bib, place: root, over: None };
     loop {
-        let mut further = None;
-        let reached = walk(card, head, log.root, (x, at), |_, searched| {
-            if searched.run.is_index() {
-                further = further.into_iter().chain(searched.key_above()).min();
+        let mut turn = from.over.map(|key| Turn { key, place: root, over: None });
+        let reached = walk(card, head, from.place, (from.key, at), |place, searched| {
+            let above = if searched.run.is_index() { searched.key_above() } else { None };
+            let over = turn.map(|turn| turn.key);
+            if let Some(key) = above.filter(|&key| over.is_none_or(|over| key < over)) {
+                turn = Some(Turn { key, place, over });
             }
         })?;
         if let Some(post) = smallest_above(&reached.data.run, bib, at) {
             return Some(record(post, 0));
         }
-        match further {
-            Some(key) => x = key,
+        match turn {
+            Some(turn) => from = turn,
             None => return Some(Answer::ACCEPTED),
         }
     }

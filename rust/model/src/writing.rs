@@ -9,7 +9,7 @@ use crate::sector::{
     all_blank, sectors as sectors_of, sectors_mut, Entry, INDEX, POST, ROOT, SECTOR, STRIKE,
 };
 use crate::survey::Survey;
-use crate::walk::walk;
+use crate::walk::{walk, Place};
 
 /// Writes walk with this t: no entry is later.
 const NOW: u32 = u32::MAX;
@@ -74,9 +74,10 @@ fn entered(card: &mut [u8], entry: Entry) -> Result<(), u32> {
     let buckets = survey.highest_used();
     let log = Log::judged(head.log(card), head.buckets, NOW).ok_or(4u32)?;
     let taken = Taken { buckets, log: log.len };
-    let levels = along::<USUAL_LEVELS>(card, &head, log.root, taken, entry)?;
+    let root = Place::root(log.root);
+    let levels = along::<USUAL_LEVELS>(card, &head, root, taken, entry)?;
     if levels > USUAL_LEVELS {
-        along::<MOST_BUCKETS>(card, &head, log.root, taken, entry)?;
+        along::<MOST_BUCKETS>(card, &head, root, taken, entry)?;
     }
     Ok(())
 }
@@ -86,15 +87,15 @@ fn entered(card: &mut [u8], entry: Entry) -> Result<(), u32> {
 fn along<const MOST: usize>(
     card: &mut [u8],
     head: &Head,
-    root: u32,
+    root: Place,
     taken: Taken,
     entry: Entry,
 ) -> Result<usize, u32> {
     let mut path = [0; MOST];
     let mut levels = 0;
-    let reached = walk(card, head, root, (entry.key, NOW), |bucket, _| {
-        if let Some(place) = path.get_mut(levels) {
-            *place = bucket;
+    let reached = walk(card, head, root, (entry.key, NOW), |place, _| {
+        if let Some(level) = path.get_mut(levels) {
+            *level = place.bucket;
         }
         levels += 1;
     });
