@@ -6,16 +6,20 @@
 #![forbid(unsafe_code)]
 
 mod answer;
+mod beside;
+mod blank;
 mod bucket;
 pub mod call;
 mod head;
 pub mod list;
+mod log;
 mod panel;
 pub mod paper;
 mod rank;
 mod reading;
 mod rewrite;
 mod row;
+mod run;
 mod sector;
 mod state;
 mod survey;

@@ -1,8 +1,9 @@
 //! The two calls that only read: look and next.
 
 use crate::answer::Answer;
-use crate::bucket::{Log, Run, Searched};
+use crate::bucket::Searched;
 use crate::head::Head;
+use crate::log::Log;
 use crate::sector::{Entry, POST};
 use crate::walk::{walk, Place};
 
@@ -11,11 +12,11 @@ pub fn standing(data: &Searched, bib: u32) -> Option<Entry> {
     data.at_most().filter(|entry| entry.key == bib && entry.kind == POST)
 }
 
-/// The smallest bib above `bib` whose last copy as of `t` is a post, with that post.
-fn smallest_above(data: &Run, bib: u32, t: u32) -> Option<Entry> {
-    let mut last = data.above(bib, t)?;
+/// The smallest bib above `bib` whose last copy in a data bucket is a post, with that post.
+fn standing_above(data: &Searched, bib: u32) -> Option<Entry> {
+    let mut last = data.above_key(bib)?;
     while last.kind != POST {
-        last = data.above(last.key, t)?;
+        last = data.above_key(last.key)?;
     }
     Some(last)
 }
@@ -68,13 +69,13 @@ fn scrolled(card: &[u8], head: &Head, bib: u32, at: u32) -> Option<Answer> {
     loop {
         let mut turn = from.over.map(|key| Turn { key, place: root, over: None });
         let reached = walk(card, head, from.place, (from.key, at), |place, searched| {
-            let above = if searched.run.is_index() { searched.key_above() } else { None };
+            let above = if searched.run.is_index() { searched.above().map(|entry| entry.key) } else { None };
             let over = turn.map(|turn| turn.key);
             if let Some(key) = above.filter(|&key| over.is_none_or(|over| key < over)) {
                 turn = Some(Turn { key, place, over });
             }
         })?;
-        if let Some(post) = smallest_above(&reached.data.run, bib, at) {
+        if let Some(post) = standing_above(&reached.data, bib) {
             return Some(record(post, 0));
         }
         match turn {

@@ -1,8 +1,8 @@
 //! What an accepted write leaves on the card: one sector, or new buckets up to where there is room.
 
-use crate::bucket::Run;
 use crate::head::{Head, MOST_SECTORS};
 use crate::row::Row;
+use crate::run::Run;
 use crate::sector::{sectors_mut, Entry, INDEX, ROOT, SECTOR, STRIKE};
 
 /// What goes up to a bucket: the call's entry, or the pairs of one or two new buckets.

@@ -1,7 +1,8 @@
 //! What the whole bucket area says: the largest stamp, and the highest bucket used.
 
+use crate::blank::up_to_blank_end;
 use crate::head::Head;
-use crate::sector::{number, sectors, up_to_blank_end, Bytes};
+use crate::sector::{number, sectors, Bytes};
 
 /// The bucket area without its blank end.
 pub struct Survey<'a> {

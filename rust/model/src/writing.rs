@@ -1,13 +1,12 @@
 //! The three calls that write: format, post and strike.
 
 use crate::answer::Answer;
-use crate::bucket::Log;
+use crate::blank::all_blank;
 use crate::head::{Head, MOST_BUCKETS};
+use crate::log::Log;
 use crate::reading::standing;
 use crate::rewrite::{self, Taken};
-use crate::sector::{
-    all_blank, sectors as sectors_of, sectors_mut, Entry, INDEX, POST, ROOT, SECTOR, STRIKE,
-};
+use crate::sector::{sectors as sectors_of, sectors_mut, Entry, INDEX, POST, ROOT, SECTOR, STRIKE};
 use crate::survey::Survey;
 use crate::walk::{walk, Place};
 
