@@ -53,6 +53,15 @@ fn levels_that_split() {
     assert_eq!(on_a_small_stack(deep::card(1364, |_| 3, true), 2), [0, 0, 0, 4]);
 }
 
+/// Paths of every length about which an implementation might keep the first buckets only.
+#[test]
+fn short_paths_of_every_length() {
+    for levels in 1..=70 {
+        assert_eq!(on_a_small_stack(deep::card(levels, |_| 4, false), 1), [0, 0, 0, 0]);
+        assert_eq!(on_a_small_stack(deep::card(levels, |_| 4, true), 2), [0, 0, 0, 4]);
+    }
+}
+
 /// A path may have N buckets if the last is data; N buckets without data are damage.
 #[test]
 fn the_longest_path() {

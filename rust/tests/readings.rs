@@ -150,6 +150,21 @@ fn next_walks_on_from_the_path_it_made() {
     assert_eq!(next(5), refused(4));
 }
 
+/// Each walk of a next begins at the root: a key on two levels of the path before is followed from
+/// the upper one, also after a walk to a key that only the lower one has.
+#[test]
+fn next_follows_a_key_from_the_uppermost_level() {
+    let root: &[Entry] = &[DOWN, (3, 10, 0, 3), (3, 20, 0, 4)];
+    let lower: &[Entry] = &[(3, 0, 0, 5), (3, 7, 0, 6), (3, 10, 0, 7)];
+    let buckets =
+        [root, lower, &[(1, 10, 1, 33)], &[(1, 20, 1, 44)], &[DUMMY], &[(2, 7, 1, 0)], &[(1, 10, 2, 77)]];
+    let card = made(&[ROOT], &buckets);
+    for bib in [5, 7] {
+        assert_eq!(ask(&card, Call::Next { bib, at: NOW }), [0, 10, 1, 33, 0]);
+    }
+    assert_eq!(ask(&card, Call::Next { bib: 10, at: NOW }), [0, 20, 1, 44, 0]);
+}
+
 /// Every bucket sector with nonzero kind counts, damaged or out of reach; the log does
 /// not.
 #[test]
