@@ -9,7 +9,7 @@ const WIDE: usize = 32;
 /// Whether every byte of the sectors is zero.
 pub fn all_blank(sectors: &[Bytes]) -> bool {
     let (wide, rest) = sectors.as_chunks::<WIDE>();
-    wide.iter().all(wide_blank) && rest.iter().fold(0, |any, sector| any | u128::from_ne_bytes(*sector)) == 0
+    wide.iter().all(wide_blank) && rest.iter().all(|sector| *sector == [0; SECTOR])
 }
 
 /// The sectors up to the last with a nonzero byte. It is looked for from behind, so that nothing

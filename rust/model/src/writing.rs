@@ -13,8 +13,9 @@ use crate::walk::{walk, Place};
 /// Writes walk with this t: no entry is later.
 const NOW: u32 = u32::MAX;
 
-/// No card of ours has a longer path; a foreign one may, and then its walk is made again with a path as
-/// long as any card's, which takes time to lay out.
+/// Each index bucket of ours leads at least two ways, but for a first root, so that no card of ours has a
+/// path as long. On a foreign one that has, the walk is made again with room for any path, which takes
+/// longer to lay out than the walk itself mostly does.
 const USUAL_LEVELS: usize = 32;
 
 /// Makes a blank card an empty one.
@@ -34,12 +35,12 @@ pub fn format(card: &mut [u8], buckets: u32, sectors: u32, td: u32, ti: u32) -> 
         return Answer::refused(9);
     }
     meant.write(card);
-    let first = |kind, value| Entry { kind, key: 0, stamp: 0, value };
-    let [bucket_1, bucket_2] = [1, 2].map(|bucket| meant.place(bucket, 0));
-    for (from, entry) in [(SECTOR, first(ROOT, 1)), (bucket_1, first(INDEX, 2)), (bucket_2, first(STRIKE, 0))]
-    {
-        entry.write(&mut sectors_mut(&mut card[from..])[0]);
-    }
+    let mut put = |from: usize, kind, value| {
+        Entry { kind, key: 0, stamp: 0, value }.write(&mut sectors_mut(&mut card[from..])[0]);
+    };
+    put(SECTOR, ROOT, 1);
+    put(meant.place(1, 0), INDEX, 2);
+    put(meant.place(2, 0), STRIKE, 0);
     Answer::ACCEPTED
 }
 
