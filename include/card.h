@@ -226,8 +226,10 @@ struct card_tally card_records(const uint8_t *card, size_t len, uint32_t bib, ui
 struct card_state card_state(const uint8_t *card, size_t len);
 
 /* The digits of a time in thousandths on a panel field of 4 (seconds, hundredths), 5 (a minute
- * digit before them) or 6 (two) places. The thousandths digit is dropped, leading zeros are shown.
- * Refused: 7, field not 4, 5 or 6, or the time too long for it: above 59.99, 9:59.99, 99:59.99. */
+ * digit before them) or 6 (two) places. A time that is no whole hundredth goes to the next longer
+ * one: 58901 is shown as 58.91. Leading zeros are shown.
+ * Refused: 7, field not 4, 5 or 6, or the time, so rounded, too long for it: above 59.99, 9:59.99,
+ * 99:59.99. */
 struct card_digits card_digits(uint32_t time, uint32_t field);
 
 #ifdef __cplusplus

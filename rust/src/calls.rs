@@ -155,13 +155,15 @@ pub fn state(card: &[u8]) -> Result<State, Refusal> {
 }
 
 /// The digits of a time in thousandths on a panel field of 4, 5 or 6 places: seconds and
-/// hundredths, then one or two minute digits. The thousandths digit is dropped.
+/// hundredths, then one or two minute digits. A time that is no whole hundredth goes to the next
+/// longer one, and then has to fit.
 ///
 /// Refused as [`Refusal::Panel`] where the time does not fit or there is no such field.
 ///
 /// ```
-/// assert_eq!(card::digits(59_999, 4)?.digits(), [5, 9, 9, 9]);
-/// assert_eq!(card::digits(60_000, 4), Err(card::Refusal::Panel));
+/// assert_eq!(card::digits(59_990, 4)?.digits(), [5, 9, 9, 9]);
+/// assert_eq!(card::digits(59_991, 4), Err(card::Refusal::Panel));
+/// assert_eq!(card::digits(59_981, 4)?.to_string(), "59.99");
 /// assert_eq!(card::digits(60_000, 5)?.to_string(), "1:00.00");
 /// # Ok::<(), card::Refusal>(())
 /// ```

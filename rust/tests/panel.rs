@@ -29,11 +29,11 @@ fn every_border() {
     }
 }
 
-/// Every minute and second, first and last hundredth, thousandths dropped.
+/// Every minute and second, at the first and last hundredth and the thousandths around them.
 #[test]
 fn every_second() {
     for second in 0..=6001 {
-        for thousandths in [0, 9, 10, 500, 989, 990, 999] {
+        for thousandths in [0, 1, 9, 10, 11, 500, 989, 990, 991, 999] {
             for field in 4..=6 {
                 same(1000 * second + thousandths, field);
             }

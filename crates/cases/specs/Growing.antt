@@ -1,4 +1,4 @@
--- "A card growing, m = 4, TD = 3, TI = 4", cases (a) to (h), and the six panel values: one statement over one list, which the checker computes.
+-- "A card growing, m = 4, TD = 3, TI = 4", cases (a) to (h), and the panel values: one statement over one list, which the checker computes.
 use Prim.Native.Nat.{ℕ}
 use mathlib.Core.List.{List, [], _∷_}
 use lib.Dec.{T}
@@ -44,17 +44,20 @@ upTo90 n more =
     ∷ ok (postCall 13 90 4)
     ∷ more
 
--- the six panel values, with the two refusals beside them
+-- the panel values, as M-100 moves them: the borders of each field on both sides
 abbrev panels : List Line
 panels =
-    shows 59999 4 0 (5 ∷ 9 ∷ 9 ∷ 9 ∷ 0 ∷ 0 ∷ [])
+    shows 59990 4 0 (5 ∷ 9 ∷ 9 ∷ 9 ∷ 0 ∷ 0 ∷ [])
+    ∷ shows 59991 4 7 nothing
+    ∷ shows 59991 5 0 (1 ∷ 0 ∷ 0 ∷ 0 ∷ 0 ∷ 0 ∷ [])
     ∷ shows 60000 4 7 nothing
     ∷ shows 60000 5 0 (1 ∷ 0 ∷ 0 ∷ 0 ∷ 0 ∷ 0 ∷ [])
-    ∷ shows 599999 5 0 (9 ∷ 5 ∷ 9 ∷ 9 ∷ 9 ∷ 0 ∷ [])
-    ∷ shows 600000 5 7 nothing
+    ∷ shows 599990 5 0 (9 ∷ 5 ∷ 9 ∷ 9 ∷ 9 ∷ 0 ∷ [])
+    ∷ shows 599991 5 7 nothing
+    ∷ shows 599991 6 0 (1 ∷ 0 ∷ 0 ∷ 0 ∷ 0 ∷ 0 ∷ [])
     ∷ shows 600000 6 0 (1 ∷ 0 ∷ 0 ∷ 0 ∷ 0 ∷ 0 ∷ [])
-    ∷ shows 5999999 6 0 (9 ∷ 9 ∷ 5 ∷ 9 ∷ 9 ∷ 9 ∷ [])
-    ∷ shows 6000000 6 7 nothing
+    ∷ shows 5999990 6 0 (9 ∷ 9 ∷ 5 ∷ 9 ∷ 9 ∷ 9 ∷ [])
+    ∷ shows 5999991 6 7 nothing
     ∷ []
 
 abbrev pub growing : List Line

@@ -4,7 +4,7 @@ ghost use mathlib.Core.Path.{_≡_};
 ghost use mathlib.Core.Bool.{false};
 ghost use mathlib.Core.List.{_∷_, [], _++_};
 ghost use lib.Dec.{leb};
-ghost use Rattle.rules.specs.Panel.{panel, panelOf, shown, seconds, minute, tenMinutes};
+ghost use Rattle.rules.specs.Panel.{hundredths, panel, panelOf, shown, seconds, minute, tenMinutes};
 
 // The one answer for a field the panel lacks and for a time that does not fit.
 fn refusal() -> Digits
@@ -92,9 +92,21 @@ fn of_hundredths(h: u32, field: u32) -> Digits
     refusal()
 }
 
-// A time in thousandths as the digits of a field: the number and six places, highest digit first.
+// The hundredths that a time in thousandths is shown as: the next longer unless it is whole.
+fn hundredths(time: u32) -> u32
+    ensures { λ r. ⌜ r ≡ hundredths time ⌝ }
+{
+    if time % 10 == 0 {
+        return time / 10;
+    }
+    time / 10 + 1
+}
+
+// A time in thousandths as the digits of a field: the number and six places, highest digit first. A field's limit is
+// judged after the rounding.
 pub fn digits(time: u32, field: u32) -> Digits
     ensures { λ r. ⌜ r ≡ panel time field ⌝ }
 {
-    of_hundredths(time / 10, field)
+    let h = hundredths(time);
+    of_hundredths(h, field)
 }

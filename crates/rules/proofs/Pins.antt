@@ -212,12 +212,22 @@ passedOver =
     ∷ used 7
     ∷ []
 
--- "field not 4, 5 or 6 digits, or time too long": a lap of 1:12.40 is not 12.40
+-- "field not 4, 5 or 6 digits, or time too long": a lap of 1:12.40 is not 12.40; and no thousandth is lost
 abbrev nothing : List ℕ
 nothing = 0 ∷ 0 ∷ 0 ∷ 0 ∷ 0 ∷ 0 ∷ []
 
 abbrev fields : List Line
-fields = shows 0 3 7 nothing ∷ shows 0 7 7 nothing ∷ shows 5 4 0 nothing ∷ shows 72400 4 7 nothing ∷ []
+fields =
+    shows 0 3 7 nothing
+    ∷ shows 0 7 7 nothing
+    ∷ shows 0 4 0 nothing
+    ∷ shows 1 4 0 (0 ∷ 0 ∷ 0 ∷ 1 ∷ 0 ∷ 0 ∷ [])
+    ∷ shows 10 4 0 (0 ∷ 0 ∷ 0 ∷ 1 ∷ 0 ∷ 0 ∷ [])
+    ∷ shows 11 4 0 (0 ∷ 0 ∷ 0 ∷ 2 ∷ 0 ∷ 0 ∷ [])
+    ∷ shows 19 4 0 (0 ∷ 0 ∷ 0 ∷ 2 ∷ 0 ∷ 0 ∷ [])
+    ∷ shows 72400 4 7 nothing
+    ∷ shows 4294967295 6 7 nothing
+    ∷ []
 
 abbrev pub pins : List Line
 pins = defaults ++ (limits ++ (two ++ (damage ++ (rewritten ++ (passedOver ++ fields)))))

@@ -1,14 +1,14 @@
 -- The panel's digits.
-use Prim.Native.Nat.{ℕ, _/_, _%_}
+use Prim.Native.Nat.{ℕ, _+_, _/_, _%_}
 use mathlib.Core.Bool.{Bool, true, false}
 use mathlib.Core.List.{List, [], _∷_, _++_}
 use lib.Dec.{leb, eqb}
 use Rattle.rules.specs.declared.Digits.{Digits}
 use Rattle.rules.specs.Plain.{if}
 
--- "The thousandths digit is dropped"
+-- "go to the next longer hundredth unless the thousandth is 0" (M-100)
 unfoldable pub hundredths : ℕ → ℕ
-hundredths time = time / 10
+hundredths time = if (eqb (time % 10) 0) (time / 10) (time / 10 + 1)
 
 -- seconds and hundredths within the minute, of a time in hundredths: four digits, highest first
 unfoldable pub seconds : ℕ → List ℕ

@@ -6,7 +6,7 @@ pub struct Digits {
     pub places: [u8; 6],
 }
 
-/// The time's digits in a field of 4, 5 or 6 places, the thousandths digit dropped.
+/// The time's digits in a field of 4, 5 or 6 places: the next longer hundredth unless the thousandth is 0.
 pub fn digits(time: u32, field: u32) -> Digits {
     let refused = Digits { code: 7, places: [0; 6] };
     let longest = match field {
@@ -15,7 +15,7 @@ pub fn digits(time: u32, field: u32) -> Digits {
         6 => 99_59_99,
         _ => return refused,
     };
-    let hundredths = time / 10;
+    let hundredths = time.div_ceil(10);
     let (minutes, seconds) = (hundredths / 6000, hundredths / 100 % 60);
     let shown = minutes * 10_000 + seconds * 100 + hundredths % 100;
     if shown > longest {
