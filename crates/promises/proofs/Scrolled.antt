@@ -7,14 +7,13 @@ use mathlib.Core.Bool.{Bool, true, false}
 use lib.ListN.{length}
 use lib.Dec.{eqb}
 use borrow.Author.Tests.{eq-eqb, eqb-true}
-use Rattle.rules.specs.declared.Entry.{Entry}
 use Rattle.rules.specs.declared.Head.{Head}
 use Rattle.rules.specs.Layout.{headOf}
 use Rattle.rules.specs.Plain.{if}
 use Rattle.writer.specs.Rows.{puts}
 use Rattle.scroll.specs.declared.Tally.{Tally}
 use Rattle.scroll.specs.declared.Scroll.{Scroll}
-use Rattle.scroll.specs.Records.{Roll, roll, rolled, given, recordsIn, recordsOf, tallyOf}
+use Rattle.scroll.specs.Records.{Roll, roll, rolled, given, recordsIn, recordsOf}
 use Rattle.scroll.specs.Scroll.{lastAfter, after, stepOf}
 use Rattle.promises.specs.Promises.{RecordsAreSettled, ScrollIsSettled, ScrollSaysAgain}
 

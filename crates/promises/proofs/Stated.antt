@@ -13,17 +13,13 @@ use Rattle.rules.specs.Answers.{refused}
 use Rattle.rules.specs.Layout.{headOf}
 use Rattle.rules.specs.Sector.{postEntry}
 use Rattle.rules.specs.Walk.{Visit, walk}
-use Rattle.rules.specs.Write.{Plan, refuse, accept, refuseIf, planAnswer, planOn, planAt, planFor, plan, post, finish, checked, stampOn, topUsed, latest}
+use Rattle.rules.specs.Write.{Plan, refuseIf, planAnswer, planOn, planAt, planFor, plan, post, finish, checked, stampOn, topUsed, latest}
 use Rattle.rules.specs.State.{stateOf, stateIn, state}
 use Rattle.rules.specs.Calls.{called, planned, postCall}
-use Rattle.promises.specs.Calls.{cardAfter, accepted}
-use Rattle.promises.specs.Reading.{lastStamp}
+use Rattle.state.proofs.States.{with-head}
+use Rattle.promises.specs.Calls.{cardAfter}
 use Rattle.promises.specs.Promises.{StateTellsTheTruth, StateTellsTheNext, StateIsSettled}
 use Rattle.promises.proofs.Truth.{calls-keep}
-
-with-head : (card : List ℕ) (h : Head) → headOf card ≡ some h → state card ≡ stateOf h (stampOn h card) (topUsed h card (h .n))
-unfolding state stateIn
-with-head card h q = rw q
 
 pub state-tells-the-truth : StateTellsTheTruth
 state-tells-the-truth h card f calls s =

@@ -1,6 +1,6 @@
 -- The plain reading of a list of entries, in words of its own: nothing here is taken from the walk, so that a wrong walk cannot move both sides.
 use Prim.Native.Nat.{ℕ}
-use mathlib.Core.Bool.{Bool, true, false}
+use mathlib.Core.Bool.{true, false}
 use mathlib.Core.List.{List, [], _∷_}
 use mathlib.Core.Option.{Option, none, some}
 use lib.Dec.{leb, eqb}

@@ -1,11 +1,8 @@
 -- `state::of_card` meets its contract: 1 where the head is broken, else the head's numbers and the survey's.
-use mathlib.Core.Path.{_≡_, ap, ap₂, sym, _∙_}
-use mathlib.Core.Option.{some}
-use Prim.Native.Nat.{_≤_}
+use mathlib.Core.Path.{ap₂, sym, _∙_}
 use native.Mathlib.Omega.{arith}
 use borrow.Author.Needs.{needs}
 use denote.Ref.{now}
-use Rattle.rules.specs.Layout.{headOf}
 use Rattle.rules.specs.State.{stateOf}
 use Rattle.laws.proofs.Used.{used-within}
 use Rattle.bucket.proofs.Room.{shape-of}
