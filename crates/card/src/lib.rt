@@ -1,4 +1,4 @@
-// The card for C and Rust: the six calls, the scroll's records and the card's state, exported. Each takes every input, and its contract is the rule.
+// The card for C and Rust: the six calls, the batch, the scroll's records and the card's state, exported. Each takes every input, and its contract is the rule.
 use rules::Answer;
 use rules::Digits;
 use rules::State;
@@ -10,6 +10,7 @@ ghost use Rattle.rules.specs.Look.{look};
 ghost use Rattle.rules.specs.Next.{next};
 ghost use Rattle.rules.specs.Panel.{panel};
 ghost use Rattle.rules.specs.State.{state};
+ghost use Rattle.rules.specs.Batch.{batch};
 ghost use Rattle.rules.specs.Format.{format};
 ghost use Rattle.rules.specs.Write.{planAnswer, planCard, post, strike};
 ghost use Rattle.writer.specs.Rows.{puts};
@@ -43,6 +44,15 @@ pub extern "C" fn card_strike(card: &mut [u8], bib: u32, at: u32) -> Answer
     ensures { λ _. ⌜ now (card .exit) ≡ planCard (now (card .entry)) (strike (now (card .entry)) bib at) ⌝ }
 {
     write::strike(card, bib, at)
+}
+
+#[no_mangle]
+pub extern "C" fn card_batch(card: &mut [u8], requests: &[u8], answers: &mut [u8]) -> u32
+    ensures { λ r. ⌜ r ≡ batch (now (card .entry)) (now (requests .entry)) (now (answers .entry)) .code ⌝ }
+    ensures { λ _. ⌜ now (card .exit) ≡ batch (now (card .entry)) (now (requests .entry)) (now (answers .entry)) .card ⌝ }
+    ensures { λ _. ⌜ now (answers .exit) ≡ batch (now (card .entry)) (now (requests .entry)) (now (answers .entry)) .answers ⌝ }
+{
+    batch::batch(card, requests, answers)
 }
 
 #[no_mangle]

@@ -90,7 +90,7 @@ module _ (h : Head) (s : ℕ) (met : List ℕ) (i k : ℕ) where
       (climb-same p r (o .1) lo (λ b f g. cl b f (omega arith)) (omega arith) sm)
 
 -- the lower part of a path
-along-right : (P : Visit → Type 0) (us p : List Visit) → Along P (us ++ p) → Along P p
+pub along-right : (P : Visit → Type 0) (us p : List Visit) → Along P (us ++ p) → Along P p
 along-right P [] p a = a
 along-right P (u ∷ us) p a = along-right P us p (a .1)
 

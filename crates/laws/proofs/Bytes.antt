@@ -16,12 +16,18 @@ use Rattle.rules.specs.Sector.{decode, encode, fields, le4, legal, put, sectorA
 use Rattle.laws.proofs.Tools.{and-true, none-some}
 use Rattle.laws.proofs.Codec.{Fits}
 use Rattle.laws.proofs.Run.{onto-inv}
-use Rattle.laws.proofs.Entries.{Good}
+use Rattle.laws.proofs.Lists.{All, all-map}
+use Rattle.laws.proofs.Entries.{Fine, Good}
 use Rattle.laws.proofs.Zeros.{zeros-get}
 
 abbrev pub Bytes : List ℕ → Type 0
 Bytes [] = Unit {0}
 Bytes (x ∷ xs) = (x < 256) × Bytes xs
+
+-- as each of them tells
+pub get-bytes : (xs : List ℕ) → ((i : ℕ) → getD xs i 0 < 256) → Bytes xs
+get-bytes [] f = tt
+get-bytes (x ∷ xs) f = (f 0, get-bytes xs (λ i. f (suc i)))
 
 bytes-get : (xs : List ℕ) (i : ℕ) → Bytes xs → getD xs i 0 < 256
 bytes-get [] i b = omega arith
@@ -68,13 +74,20 @@ unfolding put
 bytes-put card i bs a b = bytes-append (take (16 * i) card) (bs ++ drop (16 * i + 16) card) (bytes-take (16 * i) card a)
     (bytes-append bs (drop (16 * i + 16) card) b (bytes-drop (16 * i + 16) card a))
 
-pub bytes-fill : (n : ℕ) (card : List ℕ) (is : List ℕ) (new : List Entry) → Bytes card → Good n new → Bytes (fill card is new)
+pub fits-fill : (card : List ℕ) (is : List ℕ) (new : List Entry) → Bytes card → All Fits new → Bytes (fill card is new)
 unfolding fill
-bytes-fill n card is [] a g = a
-bytes-fill n card [] (e ∷ new) a g = a
-bytes-fill n card (i ∷ is) (e ∷ new) a g = bytes-fill n (put card i (encode e)) is new (bytes-put card i (encode e) a (bytes-encode e (g .0 .0))) (g .1)
+fits-fill card is [] a g = a
+fits-fill card [] (e ∷ new) a g = a
+fits-fill card (i ∷ is) (e ∷ new) a g = fits-fill (put card i (encode e)) is new (bytes-put card i (encode e) a (bytes-encode e (g .0))) (g .1)
 
-fields-fit : (s : List ℕ) → Bytes s → Fits (fields s)
+pub bytes-fill : (n : ℕ) (card : List ℕ) (is : List ℕ) (new : List Entry) → Bytes card → Good n new → Bytes (fill card is new)
+bytes-fill n card is new a g = fits-fill card is new a (all-map (Fine n) Fits (λ d f. f .0) new g)
+
+pub bytes-sector : (card : List ℕ) (i : ℕ) → Bytes card → Bytes (sectorAt card i)
+unfolding sectorAt
+bytes-sector card i b = bytes-take 16 (drop (16 * i) card) (bytes-drop (16 * i) card b)
+
+pub fields-fit : (s : List ℕ) → Bytes s → Fits (fields s)
 unfolding fields word
 fields-fit s b =
     record {
@@ -111,7 +124,7 @@ run-good n card b i (suc c) es q =
     (λ (v : (x : Entry) × (xs : List Entry) × (decode n (sectorAt card i) ≡ Held x) × (es ≡ x ∷ xs) × (run n card (suc i) c ≡ some xs)).
     let hi = held-inv n (sectorAt card i) (v .0) (v .2) in
     subst (Good n) (sym (v .3)) (
-      (subst Fits (hi .0) (fields-fit (sectorAt card i) (bytes-take 16 (drop (16 * i) card) (bytes-drop (16 * i) card b))), hi .1),
+      (subst Fits (hi .0) (fields-fit (sectorAt card i) (bytes-sector card i b)), hi .1),
       run-good n card b (suc i) c (v .1) (v .4),
     ))
     (onto-inv (decode n (sectorAt card i)) (run n card (suc i) c) es q)

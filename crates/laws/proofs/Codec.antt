@@ -25,7 +25,7 @@ pub record Fits (e : Entry) : Type 0 where
   pub stamp : e .stamp < 4294967296
   pub value : e .value < 4294967296
 
-fields-encode : (e : Entry) → Fits e → fields (encode e) ≡ e
+pub fields-encode : (e : Entry) → Fits e → fields (encode e) ≡ e
 unfolding encode le4 fields word
 fields-encode e f = λ i. record { kind = e .kind; key = digits4 (e .key) (f .key) i; stamp = digits4 (e .stamp) (f .stamp) i; value = digits4 (e .value) (f .value) i }
 

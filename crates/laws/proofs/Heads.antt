@@ -14,6 +14,7 @@ use Rattle.rules.specs.Plain.{_&_, within, zeros}
 use Rattle.rules.specs.Sector.{sectorAt, word, le4}
 use Rattle.rules.specs.Layout.{limits, sizeOf, headFields, headIn, headOf, base, headBytes}
 use Rattle.laws.proofs.Tools.{and-true, guard-true}
+use Rattle.laws.proofs.Zeros.{zeros-get}
 
 pub record Lim (h : Head) : Type 0 where
   pub m4 : 4 ≤ h .m
@@ -60,6 +61,18 @@ head-facts card h q =
     let c = and-true y (limits f & l) (b .1) in
     let d = and-true (limits f) l (c .1) in
     subst (λ (x : Head). Lim x × (sizeOf x ≡ length card)) (g .1) (limits-hold f (d .0), sym (eqb-true (length card) (sizeOf f) (d .1)))
+
+-- its first sector is no blank
+pub head-written : (card : List ℕ) (h : Head) → headOf card ≡ some h → zeros (sectorAt card 0) ≡ true → ⊥
+unfolding headOf headIn
+head-written card h q z =
+    let f = sectorAt card 0 in
+    let six = eqb (getD f 0 0) 6 in
+    let rest = eqb (word f 8) 0 & eqb (word f 12) 0 & limits (headFields f) & eqb (length card) (sizeOf (headFields f)) in
+    let t = guard-true (six & rest) (headFields f) h q in
+    let is = eqb-true (getD f 0 0) 6 (and-true six rest (t .0) .0) in
+    let none-there = zeros-get f 0 z in
+    omega arith
 
 -- bucket b, from 1 to n, lies on a card of the right length; and so does the log
 pub bucket-fits : (h : Head) (card : List ℕ) (b : ℕ) → sizeOf h ≡ length card → 1 ≤ b → b ≤ h .n → 16 * (base h b + h .m) ≤ length card

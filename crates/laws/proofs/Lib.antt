@@ -25,3 +25,8 @@ pub mod Stamps
 pub mod Writes
 pub mod AsMet
 pub mod Follows
+pub mod Mems
+pub mod Carries
+pub mod Roots
+pub mod Numbers
+pub mod Requests

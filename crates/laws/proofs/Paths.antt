@@ -77,6 +77,19 @@ walk-inv : (h : Head) (card : List ℕ) (t x : ℕ) (p : List Visit) → walk h 
 unfolding walk
 walk-inv h card t x p q = in-log (bucket h card) t x (h .n) (log h card) p q
 
+-- and its log is sound
+none-path : (rd : ℕ → Option (List Entry)) (t x f : ℕ) → pathIn rd t x f none ≡ none
+unfolding pathIn
+none-path rd t x f = refl
+
+pub walk-log : (h : Head) (card : List ℕ) (t x : ℕ) (p : List Visit) → walk h card t x ≡ some p → (es : List Entry) × (log h card ≡ some es)
+unfolding walk
+walk-log h card t x p w = go (log h card) w
+  where
+    go : (l : Option (List Entry)) → pathIn (bucket h card) t x (h .n) l ≡ some p → (es : List Entry) × (l ≡ some es)
+    go none q = absurd (none-some (sym (none-path (bucket h card) t x (h .n)) ∙ q))
+    go (some es) q = (es, refl)
+
 -- the buckets of a path are read so
 abbrev Reads : (ℕ → Option (List Entry)) → Visit → Type 0
 Reads rd v = rd (v .number) ≡ some (v .entries)
@@ -95,6 +108,23 @@ path-reads rd t x (suc f) b k p e =
 pub walk-reads : (h : Head) (card : List ℕ) (t x : ℕ) (p : List Visit) → walk h card t x ≡ some p
     → Along (λ v. bucket h card (v .number) ≡ some (v .entries)) p
 walk-reads h card t x p q = let w = walk-inv h card t x p q in path-reads (bucket h card) t x (h .n) (w .0) 0 p (w .1)
+
+-- a walk meets a bucket
+visit-some : (v : Visit) (p : List Visit) → [] ≡ v ∷ p → ⊥
+visit-some v p q = let z : _≡_ {A = ℕ} 0 1 = cc in omega arith
+
+path-some : (rd : ℕ → Option (List Entry)) (t x f b k : ℕ) → path rd t x f b k ≡ some [] → ⊥
+path-some rd t x zero b k e = path-zero rd t x b k [] e
+path-some rd t x (suc f) b k e =
+    let s = path-inv rd t x f b k [] e in
+    let v : Visit = record { number = b; entries = s .0 } in
+    ⊎-elim
+    (λ (a : (turn t x k (s .0) ≡ arrived) × ([] ≡ v ∷ [])). visit-some v [] (a .1))
+    (λ (a : (m : Entry) × (o : List Visit) × (turn t x k (s .0) ≡ down m) × (path rd t x f (m .value) (m .key) ≡ some o) × ([] ≡ v ∷ o)). visit-some v (a .1) (a .4))
+    (s .2)
+
+pub walk-some : (h : Head) (card : List ℕ) (t x : ℕ) → walk h card t x ≡ some [] → ⊥
+walk-some h card t x q = let w = walk-inv h card t x [] q in path-some (bucket h card) t x (h .n) (w .0) 0 (w .1)
 
 -- the key followed to a bucket of a path is its header's
 turn-key : (t x k : ℕ) (es : List Entry) → (turn t x k es ≡ broken → ⊥) → keyOf es ≡ k

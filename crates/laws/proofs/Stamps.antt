@@ -56,7 +56,7 @@ pub stamp-blank : (s : List ℕ) → zeros s ≡ true → stampOf s ≡ 0
 unfolding stampOf
 stamp-blank s z = rw (eq-eqb (getD s 0 0) 0 (zeros-get s 0 z))
 
-run-stamps : (n : ℕ) (card : List ℕ) (t i c : ℕ) (es : List Entry) → ((j : ℕ) → i ≤ j → j < i + c → stampOf (sectorAt card j) ≤ t)
+pub run-stamps : (n : ℕ) (card : List ℕ) (t i c : ℕ) (es : List Entry) → ((j : ℕ) → i ≤ j → j < i + c → stampOf (sectorAt card j) ≤ t)
     → run n card i c ≡ some es → All (λ e. e .stamp ≤ t) es
 unfolding run
 run-stamps n card t i zero [] f q = tt

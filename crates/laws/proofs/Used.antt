@@ -17,7 +17,7 @@ use Rattle.rules.specs.Write.{topUsed}
 use Rattle.laws.proofs.Tools.{and-true, eq-or-ne, le-or-lt, none-some}
 use Rattle.laws.proofs.Buckets.{bucket-raw, bucket-within, raw}
 
-unwritten-each : (card : List ℕ) (i c j : ℕ) → unwritten card i c ≡ true → i ≤ j → j < i + c → zeros (sectorAt card j) ≡ true
+pub unwritten-each : (card : List ℕ) (i c j : ℕ) → unwritten card i c ≡ true → i ≤ j → j < i + c → zeros (sectorAt card j) ≡ true
 unfolding unwritten
 unwritten-each card i zero j u p q = absurd (omega arith)
 unwritten-each card i (suc c) j u p q =
@@ -32,7 +32,7 @@ unfolding run decode onto
 run-blank n card i zero f = refl
 run-blank n card i (suc c) f = rw (f i (omega arith) (omega arith), run-blank n card (suc i) c (λ j p q. f j (omega arith) (omega arith)))
 
-top-blank : (h : Head) (card : List ℕ) (n c : ℕ) → topUsed h card n < c → c ≤ n → unwritten card (base h c) (h .m) ≡ true
+pub top-blank : (h : Head) (card : List ℕ) (n c : ℕ) → topUsed h card n < c → c ≤ n → unwritten card (base h c) (h .m) ≡ true
 unfolding topUsed
 top-blank h card zero c lt le = absurd (omega arith)
 top-blank h card (suc n) c lt le = go (unwritten card (base h (suc n)) (h .m)) refl lt (top-blank h card n c)

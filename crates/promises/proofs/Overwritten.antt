@@ -15,7 +15,7 @@ use Rattle.rules.specs.Format.{formatFor, format, formatted, dummy, meant}
 use Rattle.rules.specs.Calls.{Call, formatCall, postCall, strikeCall, lookCall, nextCall, called, planned, answered}
 use Rattle.rules.specs.Rewrite.{into}
 use Rattle.rules.specs.Plain.{zeros}
-use Rattle.laws.proofs.Bytes.{Bytes}
+use Rattle.laws.proofs.Bytes.{Bytes, get-bytes}
 use Rattle.laws.proofs.Codec.{length-encode}
 use Rattle.laws.proofs.Heads.{Lim, limits-hold, head-facts, head-length, head-says}
 use Rattle.laws.proofs.Into.{Stays}
@@ -123,10 +123,6 @@ format-left card h (accept new) q =
     subst (Left card) (i .3) (formatted-left h card (limits-hold h (i .0)) (i .1) (i .2))
 
 -- post and strike
-get-bytes : (xs : List ℕ) → OfBytes xs → Bytes xs
-get-bytes [] f = tt
-get-bytes (x ∷ xs) f = (f 0, get-bytes xs (λ i. f (suc i)))
-
 headless : (card : List ℕ) (e : Entry) (new : List ℕ) → headOf card ≡ none → plan card e ≡ accept new → ⊥
 unfolding plan planFor
 headless card e new hq q = no-accept 1 new (rw hq at q)

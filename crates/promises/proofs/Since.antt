@@ -19,12 +19,13 @@ use Rattle.rules.specs.Layout.{limits, headOf, headIn, headFields, sizeOf}
 use Rattle.rules.specs.Format.{format, formatFor, formatted, meant}
 use Rattle.rules.specs.Calls.{Call, formatCall, postCall, strikeCall, lookCall, nextCall, called, planned, answered}
 use Rattle.laws.proofs.Tools.{bool-cases, and-true, guard-true}
-use Rattle.laws.proofs.Zeros.{zeros-get, zero-sector}
+use Rattle.laws.proofs.Heads.{head-written}
+use Rattle.laws.proofs.Zeros.{zero-sector}
 use Rattle.laws.proofs.Entries.{Asks, post-asks, strike-asks}
+use Rattle.laws.proofs.Numbers.{Numbered, plan-numbered}
 use Rattle.tree.proofs.Keeps.{Keeps, more, keeps-step}
 use Rattle.promises.specs.Calls.{Sized, AllSized, cardAfter, ifZero, taken, accepted, Above}
 use Rattle.promises.specs.Reading.{lastStamp}
-use Rattle.promises.proofs.Numbers.{Numbered, plan-numbered}
 
 -- each entry in turn is accepted, and the last of the cards is d
 abbrev pub Since : List ℕ → List Entry → List ℕ → Type 0
@@ -47,19 +48,9 @@ since-keeps h c g begin s ke (e ∷ es) d q =
     (r .0, λ at lt up. r .1 at (up .0) (up .1))
 
 -- a card with a head is not blank, so that a format of it is refused
-no-head : (c : List ℕ) (h : Head) → headOf c ≡ some h → zeros c ≡ true → ⊥
-unfolding headOf headIn
-no-head c h q z =
-    let s = sectorAt c 0 in
-    let six = eqb (getD s 0 0) 6 in
-    let rest = eqb (word s 8) 0 & eqb (word s 12) 0 & limits (headFields s) & eqb (length c) (sizeOf (headFields s)) in
-    let t = guard-true (six & rest) (headFields s) h q in
-    let is = eqb-true (getD s 0 0) 6 (and-true six rest (t .0) .0) in
-    let none-there = zeros-get s 0 (zero-sector c 0 z) in
-    omega arith
-
 head-nonzero : (c : List ℕ) (h : Head) → headOf c ≡ some h → zeros c ≡ false
-head-nonzero c h q = ⊎-elim (λ (z : zeros c ≡ true). absurd (no-head c h q z)) (λ (z : zeros c ≡ false). z) (bool-cases (zeros c))
+head-nonzero c h q =
+    ⊎-elim (λ (z : zeros c ≡ true). absurd (head-written c h q (zero-sector c 0 z))) (λ (z : zeros c ≡ false). z) (bool-cases (zeros c))
 
 refused-inner : (b : Bool) (c : List ℕ) (p : Plan) → zeros c ≡ false → (x : ℕ) × (refuseIf b 8 (refuseIf (not (zeros c)) 9 p) ≡ refuse x)
 unfolding refuseIf

@@ -1,6 +1,5 @@
 -- What a card says of itself.
 use mathlib.Core.Path.{_≡_, refl, ap, sym, _∙_}
-use mathlib.Core.Bool.{true, false, Bool}
 use mathlib.Core.List.{List}
 use mathlib.Core.Option.{Option, none, some}
 use Prim.Native.Nat.{ℕ, _≤_, _<_}
@@ -13,9 +12,10 @@ use Rattle.rules.specs.Answers.{refused}
 use Rattle.rules.specs.Layout.{headOf}
 use Rattle.rules.specs.Sector.{postEntry}
 use Rattle.rules.specs.Walk.{Visit, walk}
-use Rattle.rules.specs.Write.{Plan, refuseIf, planAnswer, planOn, planAt, planFor, plan, post, finish, checked, stampOn, topUsed, latest}
+use Rattle.rules.specs.Write.{Plan, refuse, accept, refuseIf, planAnswer, planAt, planFor, plan, post, stampOn, topUsed, latest}
 use Rattle.rules.specs.State.{stateOf, stateIn, state}
 use Rattle.rules.specs.Calls.{called, planned, postCall}
+use Rattle.laws.proofs.Numbers.{Refuses, at-refuses}
 use Rattle.state.proofs.States.{with-head}
 use Rattle.promises.specs.Calls.{cardAfter}
 use Rattle.promises.specs.Promises.{StateTellsTheTruth, StateTellsTheNext, StateIsSettled}
@@ -28,15 +28,13 @@ state-tells-the-truth h card f calls s =
     with-head d h (ke .state .head) ∙ ap (λ (last : ℕ). stateOf h last (topUsed h d (h .n))) (ke .top)
 
 -- past the stamp no plan is refused with 3
-if-not-three : (b : Bool) (c : ℕ) (p : Plan) → (c ≡ 3 → ⊥) → (planAnswer p .code ≡ 3 → ⊥) → planAnswer (refuseIf b c p) .code ≡ 3 → ⊥
-unfolding refuseIf planAnswer refused
-if-not-three true c p n q z = n z
-if-not-three false c p n q z = q z
+other-number : (p : Plan) → Refuses (λ c. c ≡ 3 → ⊥) p → planAnswer p .code ≡ 3 → ⊥
+unfolding planAnswer refused
+other-number (refuse c) n z = n z
+other-number (accept new) n z = omega arith
 
 at-not-three : (h : Head) (card : List ℕ) (e : Entry) (w : Option (List Visit)) → planAnswer (planAt h card e w) .code ≡ 3 → ⊥
-unfolding planAt planOn finish checked planAnswer refused
-at-not-three h card e none = λ z. omega arith
-at-not-three h card e (some p) = if-not-three _ 5 _ (λ z. omega arith) (if-not-three _ 6 _ (λ z. omega arith) (λ z. omega arith))
+at-not-three h card e w = other-number (planAt h card e w) (at-refuses (λ c. c ≡ 3 → ⊥) (λ z. omega arith) (λ z. omega arith) (λ z. omega arith) h card e w)
 
 -- a post on a card with a head
 module _ (card : List ℕ) (h : Head) (q : headOf card ≡ some h) (e : Entry) (key : 1 ≤ e .key) where

@@ -10,6 +10,7 @@ pub mod Rewrite
 pub mod Write
 pub mod Format
 pub mod State
+pub mod Batch
 pub mod Calls
 pub mod Panel
 pub mod Bench

@@ -1,5 +1,5 @@
 -- The track of a write is the rule's walk: its buckets in the order of the way up. A turn of its loop.
-use mathlib.Core.Path.{_≡_, refl, ap, sym, _∙_}
+use mathlib.Core.Path.{_≡_, refl, ap, sym, _∙_, subst}
 use mathlib.Core.Logic.{⊎-elim}
 use mathlib.Core.Bool.{true, false}
 use mathlib.Core.Option.{Option, none, some}
@@ -14,6 +14,8 @@ use lib.Seq.{drop-cons, drop-set-lt, getD-set-same}
 use Rattle.rules.specs.declared.Entry.{Entry}
 use Rattle.rules.specs.declared.Head.{Head}
 use Rattle.laws.proofs.Tools.{false-true}
+use Rattle.laws.proofs.Roots.{valueOf, rootNow}
+use Rattle.rules.specs.Plain.{andThen}
 use Rattle.rules.specs.Bucket.{bucket, log}
 use Rattle.rules.specs.Walk.{Visit, Turn, broken, arrived, down, left, copyOf, turn, met, go, goIn, path, pathFrom, walk, dataOf}
 use Rattle.rules.specs.Write.{latest}
@@ -23,7 +25,8 @@ use Rattle.scan.specs.declared.Way.{Way}
 use Rattle.scan.specs.Scan.{sectors, wayOf, searchLog}
 use Rattle.scan.specs.Look.{searchAt}
 use Rattle.scan.proofs.Picks.{hit}
-use Rattle.scan.proofs.Ways.{wayOn, wayIn, search-bucket, rootOf, search-log}
+use Rattle.scan.proofs.Parts.{root-found}
+use Rattle.scan.proofs.Ways.{wayOn, wayIn, search-bucket, rootOf, lastLeft, search-log}
 use Rattle.scan.proofs.Looks.{Filled, path-filled, in-then}
 use Rattle.climb.specs.Levels.{upward}
 use Rattle.trail.specs.declared.Trail.{Trail}
@@ -70,31 +73,63 @@ track-path h card x (suc f) above b k =
     (in-track x above b k (bucket h card b) (trackScan h card x f (b ∷ above)) (path (bucket h card) latest x f)
     (λ c j. track-path h card x f (b ∷ above) c j) (λ c j. path-filled (bucket h card) latest x f c j))
 
-track-from : (h : Head) (card : List ℕ) (x : ℕ) (o : Found) → trackFrom h card x o ≡ trackIn x [] (pathFrom (bucket h card) latest x (h .n) (rootOf o))
-unfolding trackFrom pathFrom rootOf trackIn
-track-from h card x Damage = refl
-track-from h card x Nothing = refl
-track-from h card x (Hit e) = track-path h card x (h .n) [] (e .value) 0
+-- there is no bucket 0
+nowhere : (h : Head) (card : List ℕ) (x f : ℕ) → trackScan h card x f [] 0 0 ≡ track [] Damage
+unfolding trackScan trackOn searchAt
+nowhere h card x zero = refl
+nowhere h card x (suc f) = refl
+
+from-number : (h : Head) (card : List ℕ) (x b : ℕ) → trackFrom h card x b ≡ trackScan h card x (h .n) [] b 0
+unfolding trackFrom
+from-number h card x zero = sym (nowhere h card x (h .n))
+from-number h card x (suc b) = refl
+
+track-from : (h : Head) (card : List ℕ) (x : ℕ) (o : Option Entry) → trackFrom h card x (valueOf o) ≡ trackIn x [] (pathFrom (bucket h card) latest x (h .n) o)
+unfolding trackFrom pathFrom valueOf trackIn
+track-from h card x none = refl
+track-from h card x (some e) = from-number h card x (e .value) ∙ track-path h card x (h .n) [] (e .value) 0
 
 -- from the log on
-pub track-walk : (h : Head) (card : List ℕ) (x : ℕ) → trackFrom h card x (searchLog latest (sectors (h .n) card 1 (h .n))) ≡ trackIn x [] (walk h card latest x)
-unfolding walk
+pub track-walk : (h : Head) (card : List ℕ) (x : ℕ) → trackFrom h card x (rootNow h card) ≡ trackIn x [] (walk h card latest x)
+unfolding walk rootNow
 track-walk h card x =
-    track-from h card x (searchLog latest (sectors (h .n) card 1 (h .n)))
-    ∙ ap (λ r. trackIn x [] (pathFrom (bucket h card) latest x (h .n) r)) (search-log h card latest)
-    ∙ ap (trackIn x []) (in-then (bucket h card) latest x (h .n) (log h card))
+    track-from h card x (andThen (log h card) (lastLeft latest)) ∙ ap (trackIn x []) (in-then (bucket h card) latest x (h .n) (log h card))
 
--- no root entry is left, as the other branch has it
-pub no-root : (h : Head) (card : List ℕ) (x : ℕ) (f : Found) → OneOf (0 ∷ 1 ∷ []) (tagOf the-type f) → track [] Damage ≡ trackFrom h card x f
-unfolding trackFrom
-no-root h card x Damage p = refl
-no-root h card x Nothing p = refl
-no-root h card x (Hit e) p = ⊎-elim (λ a. absurd (omega arith)) (λ b. absurd (omega arith)) p
+-- as the scan of the log has it
+pub root-found-now : (h : Head) (card : List ℕ) (f : Found) → f ≡ searchLog latest (sectors (h .n) card 1 (h .n)) → valueOf (rootOf f) ≡ rootNow h card
+unfolding rootNow
+root-found-now h card f q = ap valueOf (ap rootOf q ∙ search-log h card latest)
 
--- the log's root entry
-pub hit-from : (h : Head) (card : List ℕ) (x : ℕ) (f : Found) (e : Entry) → f ≡ Hit e → trackScan h card x (h .n) [] (e .value) 0 ≡ trackFrom h card x f
+pub no-root : (h : Head) (card : List ℕ) (f : Found) → f ≡ searchLog latest (sectors (h .n) card 1 (h .n)) → OneOf (0 ∷ 1 ∷ []) (tagOf the-type f) → 0 ≡ rootNow h card
+unfolding valueOf rootOf
+no-root h card f q o = none-there f o ∙ root-found-now h card f q
+  where
+    none-there : (f : Found) → OneOf (0 ∷ 1 ∷ []) (tagOf the-type f) → 0 ≡ valueOf (rootOf f)
+    none-there Damage p = refl
+    none-there Nothing p = refl
+    none-there (Hit e) p = ⊎-elim (λ a. absurd (omega arith)) (λ b. absurd (omega arith)) p
+
+pub hit-root : (h : Head) (card : List ℕ) (f : Found) (e : Entry) → f ≡ searchLog latest (sectors (h .n) card 1 (h .n)) → f ≡ Hit e → e .value ≡ rootNow h card
+unfolding valueOf rootOf
+hit-root h card f e q is = sym (ap (λ (g : Found). valueOf (rootOf g)) is) ∙ root-found-now h card f q
+
+-- a root is a bucket of the card
+pub root-within : (h : Head) (card : List ℕ) → rootNow h card ≤ h .n
+unfolding valueOf rootOf
+root-within h card = subst (λ (b : ℕ). b ≤ h .n) (root-found-now h card _ refl) (go (searchLog latest (sectors (h .n) card 1 (h .n))) refl)
+  where
+    go : (f : Found) → searchLog latest (sectors (h .n) card 1 (h .n)) ≡ f → valueOf (rootOf f) ≤ h .n
+    go Damage q = omega arith
+    go Nothing q = omega arith
+    go (Hit e) q = root-found (h .n) card latest 1 (h .n) e q .1
+
+-- no root, and a root
+pub from-none : (h : Head) (card : List ℕ) (x b : ℕ) → b ≡ 0 → track [] Damage ≡ trackFrom h card x b
 unfolding trackFrom
-hit-from h card x f e q = rw q
+from-none h card x b z = rw z
+
+pub from-root : (h : Head) (card : List ℕ) (x b : ℕ) → trackScan h card x (h .n) [] b 0 ≡ trackFrom h card x b
+from-root h card x b = sym (from-number h card x b)
 
 -- a bucket written down in front of those above it
 store-front : (path : List ℕ) (i b : ℕ) → i < length path → drop i (set path i b) ≡ b ∷ drop (suc i) path

@@ -32,10 +32,10 @@ unfoldable pub trackScan : Head → List ℕ → ℕ → ℕ → List ℕ → �
 trackScan h card x zero above b k = track [] Damage
 trackScan h card x (suc f) above b k = trackOn (searchAt h card x latest b k) (b ∷ above) (trackScan h card x f (b ∷ above))
 
-unfoldable pub trackFrom : Head → List ℕ → ℕ → Found → Track
-trackFrom h card x Damage = track [] Damage
-trackFrom h card x Nothing = track [] Damage
-trackFrom h card x (Hit e) = trackScan h card x (h .n) [] (e .value) 0
+-- from the root on; 0 is none
+unfoldable pub trackFrom : Head → List ℕ → ℕ → ℕ → Track
+trackFrom h card x zero = track [] Damage
+trackFrom h card x (suc b) = trackScan h card x (h .n) [] (suc b) 0
 
 -- the lent path, of so many places, holds the track from the start on
 pub record Leads (r : Trail) (places : ℕ) (path : List ℕ) (t : Track) : Type 0 where

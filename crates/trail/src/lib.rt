@@ -7,7 +7,7 @@ ghost use Prim.Native.Nat.{_≤_};
 ghost use mathlib.Core.Bool.{false};
 ghost use mathlib.Core.List.{[]};
 ghost use lib.ListN.{length};
-ghost use Rattle.scan.specs.Scan.{sectors, searchLog};
+ghost use Rattle.laws.proofs.Roots.{rootNow};
 ghost use Rattle.bucket.specs.Shapes.{Shape};
 ghost use Rattle.trail.specs.Trail.{Went, trackScan, trackFrom};
 
@@ -78,14 +78,26 @@ fn descend(card: &[u8], head: Head, root: u32, key: u32, path: &mut [u32]) -> Tr
     }
 }
 
-pub fn walk_down(card: &[u8], head: Head, key: u32, path: &mut [u32]) -> Trail
+// The bucket of the log's last root entry; 0 where the log is damaged, which it judges as a whole.
+pub fn root_of(card: &[u8], head: Head) -> u32
     requires { ⌜ Shape head (now card) ⌝ }
-    ensures { λ r. ⌜ Went r (length (now (path .entry))) (head .n) (now (path .exit)) (trackFrom head (now (card .entry)) key (searchLog 4294967295 (sectors (head .n) (now (card .entry)) 1 (head .n)))) ⌝ }
+    ensures { λ r. ⌜ r ≡ rootNow head (now (card .entry)) ⌝ }
 {
-    let places = path.len();
     let found = bucket::find_root(card, head, 4294967295);
     let Found::Hit(root) = found else {
-        return lost(places);
+        return 0;
     };
-    descend(card, head, root.value, key, path)
+    root.value
+}
+
+// The walk to a key. The root is given, so that who walks more than once has the log judged once.
+pub fn walk_down(card: &[u8], head: Head, root: u32, key: u32, path: &mut [u32]) -> Trail
+    requires { ⌜ Shape head (now card) × (root ≡ rootNow head (now card)) ⌝ }
+    ensures { λ r. ⌜ Went r (length (now (path .entry))) (head .n) (now (path .exit)) (trackFrom head (now (card .entry)) key root) ⌝ }
+{
+    let places = path.len();
+    if root == 0 {
+        return lost(places);
+    }
+    descend(card, head, root, key, path)
 }

@@ -16,10 +16,10 @@ use Rattle.rules.specs.Rewrite.{fill}
 use Rattle.rules.specs.Sector.{isRoot, sectorAt}
 use Rattle.laws.proofs.Run.{run-agree}
 use Rattle.laws.proofs.Buckets.{raw}
-use Rattle.laws.proofs.Blocks.{Each, Lies, blanks-each, fill-other, fill-run, length-fill}
+use Rattle.laws.proofs.Blocks.{Each, Lies, blanks-each, fill-other, length-fill}
 use Rattle.laws.proofs.Entries.{Good, Fine}
 use Rattle.laws.proofs.Bytes.{bytes-fill}
-use Rattle.laws.proofs.Logs.{log-raw, soundLog-snoc}
+use Rattle.laws.proofs.Logs.{log-grows}
 use Rattle.tree.proofs.Ready.{Ready}
 
 pub record Logged (h : Head) (card card' : List ℕ) (f : ℕ) (lg : List Entry) : Type 0 where
@@ -31,10 +31,9 @@ pub record Logged (h : Head) (card card' : List ℕ) (f : ℕ) (lg : List Entry)
 pub log-step : (h : Head) (card : List ℕ) (f : ℕ) (lg : List Entry) (r : Entry) → Ready h card f → log h card ≡ some lg
     → 1 ≤ length (logBlanks h card)
     → Fine (h .n) r → isRoot r ≡ true → Logged h card (fill card (logBlanks h card) (r ∷ [])) f (lg ++ (r ∷ []))
-unfolding log logBlanks bucket sizeOf base
+unfolding logBlanks bucket sizeOf base
 log-step h card f lg r rdy q room fine root =
     let size = rdy .size in
-    let inv = log-raw h card lg q in
     let is = blanks card 1 (h .n) in
     let card' = fill card is (r ∷ []) in
     let good : Good (h .n) (r ∷ []) = (fine, tt) in
@@ -52,7 +51,7 @@ log-step h card f lg r rdy q room fine root =
         whole = λ c a. let w = rdy .whole c a in (w .0, rawsame c ∙ w .1);
       };
       head = other 0 (inl (omega arith));
-      logged = rw (fill-run (h .n) card 1 (h .n) lg (r ∷ []) good (omega arith) room (inv .0)) (soundLog-snoc lg r (inv .1) root);
+      logged = log-grows h card lg r size q room fine root;
       same = λ c. buckets c (rawsame c);
     }
   where

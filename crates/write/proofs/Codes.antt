@@ -7,22 +7,24 @@ use mathlib.Core.List.{List, []}
 use Prim.Native.Nat.{ℕ, zero, suc, _<_}
 use native.Mathlib.Omega.{arith}
 use lib.Dec.{eqb, leb}
-use borrow.Author.Tests.{eq-eqb, ne-eqb}
+use borrow.Author.Tests.{eq-eqb, ne-eqb, leb-false}
 use Rattle.rules.specs.declared.Entry.{Entry}
 use Rattle.rules.specs.declared.Head.{Head}
-use Rattle.rules.specs.declared.Answer.{Answer}
+use Rattle.rules.specs.Answers.{refused}
 use Rattle.rules.specs.Plain.{_&_, isNone}
 use Rattle.rules.specs.Sector.{isPost}
 use Rattle.rules.specs.Layout.{headOf}
 use Rattle.rules.specs.Walk.{Visit, walk, standing, standsOn, copyOf, left, dataOf}
-use Rattle.rules.specs.Write.{Plan, refuse, refuseIf, planOn, planAt, planFor, plan, stampOn, latest}
+use Rattle.rules.specs.Write.{Plan, refuse, accept, refuseIf, planAnswer, planCard, planOn, planAt, planFor, plan, stampOn, topUsed, latest}
 use Rattle.laws.proofs.Tools.{bool-cases, false-true}
-use Rattle.laws.proofs.Follows.{Follows}
+use Rattle.laws.proofs.Entries.{Asks, Fine, asks-fine}
+use Rattle.laws.proofs.Roots.{rootNow}
 use Rattle.scan.specs.declared.Found.{Found}
 use Rattle.scan.proofs.Picks.{hit}
 use Rattle.trail.proofs.Tracks.{trackIn}
 use Rattle.climb.specs.Levels.{upward}
-use Rattle.write.specs.Plans.{codeOf, pathOr, walked, Came, Tried}
+use Rattle.write.specs.declared.Entered.{Entered}
+use Rattle.write.specs.Plans.{codeOf, pathOr, walked, Came, Did, Tried}
 
 -- a number refuses, 0 goes on
 abbrev coded : ℕ → Plan → Plan
@@ -96,16 +98,41 @@ module _ (card : List ℕ) (e : Entry) where
       unfolding plan planFor refuseIf
       goes-in y = rw (q, ne-eqb (e .key) 0 ne, ← is, y)
 
+      -- and the entry can be written
+      pub fine-now : Asks e → late ≡ false → Fine (h .n) e
+      fine-now asks y = asks-fine (h .n) e asks (omega (arith, ne)) (omega (arith, leb-false (e .stamp) (stampOn h card) (sym is ∙ y)))
+
 -- the track of a walk that came to data is its path
 pub came-path : (h : Head) (card : List ℕ) (x : ℕ) → Came h card x → trackIn x [] (walk h card latest x) .path ≡ upward (walked h card x) []
 unfolding trackIn
 came-path h card x q = ap (λ (o : Option (List Visit)). trackIn x [] o .path) q
 
--- a path was tried: it had places enough, or not
-module _ (places n : ℕ) (card : List ℕ) (p : Plan) where
-  pub did : (a : Answer) (after : List ℕ) → Follows p card a after → Tried (record { deep = false; answer = a }) places n card after p
-  did a after f = record { answer = λ no. f .answer; bytes = λ no. f .bytes; same = λ yes. absurd (false-true yes); few = λ yes. absurd (false-true yes) }
+-- a plan was followed, by another name of it
+pub did-same : (r : Entered) (h : Head) (card after : List ℕ) (p q : Plan) → p ≡ q → Did r h card after q → Did r h card after p
+did-same r h card after p q e d =
+    record { code = d .code ∙ sym (ap (λ (y : Plan). planAnswer y .code) e); bytes = d .bytes ∙ sym (ap (planCard card) e); used = d .used; root = d .root }
 
-  pub did-not : (a : Answer) → places < n → Tried (record { deep = true; answer = a }) places n card card p
-  did-not a less =
-      record { answer = λ no. absurd (false-true (sym no)); bytes = λ no. absurd (false-true (sym no)); same = λ yes. refl; few = λ yes. less }
+-- a plan was followed: it refused, or it was accepted
+module _ (h : Head) (card : List ℕ) (p : Plan) where
+  pub did-refuse : (c used root : ℕ) → used ≡ topUsed h card (h .n) → root ≡ rootNow h card → p ≡ refuse c
+      → Did (record { code = c; used = used; root = root }) h card card p
+  unfolding planAnswer planCard refused
+  did-refuse c used root us rt q = record { code = sym (ap (λ (y : Plan). planAnswer y .code) q); bytes = sym (ap (planCard card) q); used = us; root = rt }
+
+  pub did-accept : (new : List ℕ) (used root : ℕ) → p ≡ accept new → used ≡ topUsed h new (h .n) → root ≡ rootNow h new
+      → Did (record { code = 0; used = used; root = root }) h card new p
+  unfolding planAnswer planCard refused
+  did-accept new used root q us rt = record { code = sym (ap (λ (y : Plan). planAnswer y .code) q); bytes = sym (ap (planCard card) q); used = us; root = rt }
+
+  -- a path was tried: it had places enough, or not
+  pub tried : (places : ℕ) (r : Entered) (after : List ℕ) → Did r h card after p → Tried (record { deep = false; entered = r }) places h card after p
+  tried places r after d = record { did = λ no. d; same = λ yes. absurd (false-true yes); few = λ yes. absurd (false-true yes) }
+
+  pub tried-short : (places : ℕ) (r : Entered) → places < h .n → Tried (record { deep = true; entered = r }) places h card card p
+  tried-short places r less = record { did = λ no. absurd (false-true (sym no)); same = λ yes. refl; few = λ yes. less }
+
+-- the answer is the number with zeros beside it
+pub answer-by : (p : Plan) (c : ℕ) → c ≡ planAnswer p .code → refused c ≡ planAnswer p
+unfolding planAnswer refused
+answer-by (refuse d) c q = ap refused q
+answer-by (accept new) c q = ap refused q

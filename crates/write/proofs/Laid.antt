@@ -11,7 +11,7 @@ use lib.ListN.{length}
 use borrow.Author.Tests.{lt-ltb, le-ltb, ltb-false, eq-eqb, ne-eqb}
 use Rattle.rules.specs.declared.Entry.{Entry}
 use Rattle.rules.specs.declared.Head.{Head}
-use Rattle.rules.specs.Plain.{_&_, _or_}
+use Rattle.rules.specs.Plain.{if, _&_, _or_}
 use Rattle.rules.specs.Layout.{headOf}
 use Rattle.rules.specs.Bucket.{bucket, log, logBlanks}
 use Rattle.rules.specs.Walk.{Visit, walk, pathIn}
@@ -19,10 +19,15 @@ use Rattle.rules.specs.Rewrite.{Rise, oneBucket}
 use Rattle.rules.specs.Write.{refuse, accept, refuseIf, climb, rooted, logged, logFull, checked, finish, planOn, topUsed, latest}
 use Rattle.laws.proofs.Tools.{none-some, le-or-lt, eq-or-ne}
 use Rattle.laws.proofs.Run.{blanks-agree}
-use Rattle.laws.proofs.Paths.{Along, along-map, walk-reads}
+use Rattle.laws.proofs.Paths.{Along, along-map, walk-reads, walk-log}
 use Rattle.laws.proofs.Used.{used-top, top-raw}
 use Rattle.laws.proofs.AsMet.{front-met}
-use Rattle.laws.proofs.Fresh.{rooted-fresh}
+use Rattle.laws.proofs.Bytes.{Bytes}
+use Rattle.laws.proofs.Entries.{Fine}
+use Rattle.laws.proofs.Heads.{head-facts}
+use Rattle.laws.proofs.Fresh.{climb-mono, rooted-fresh, freshAfter}
+use Rattle.laws.proofs.Carries.{planned-next}
+use Rattle.laws.proofs.Roots.{rootNow, root-stays, root-moves}
 use Rattle.bucket.specs.Shapes.{Shape}
 use Rattle.bucket.proofs.Room.{shape-of}
 use Rattle.climb.specs.Levels.{entriesOn, orEmpty, risen, riseOn, topped, Tally, tally, countOn, freshOver, isOpen, needsOf, upward, AllRead, AllBelow, Ready}
@@ -61,18 +66,6 @@ below-up : (h : Head) (card : List ℕ) (f : ℕ) (p : List Visit) (above : List
 unfolding upward
 below-up h card f [] above a r = r
 below-up h card f (v ∷ p) above a r = below-up h card f p (v .number ∷ above) (a .1) (a .0, r)
-
-none-path : (rd : ℕ → Option (List Entry)) (t x f : ℕ) → pathIn rd t x f none ≡ none
-unfolding pathIn
-none-path rd t x f = refl
-
-walk-log : (h : Head) (card : List ℕ) (t x : ℕ) (p : List Visit) → walk h card t x ≡ some p → (es : List Entry) × (log h card ≡ some es)
-unfolding walk
-walk-log h card t x p w = go (log h card) w
-  where
-    go : (l : Option (List Entry)) → pathIn (bucket h card) t x (h .n) l ≡ some p → (es : List Entry) × (l ≡ some es)
-    go none q = absurd (none-some (sym (none-path (bucket h card) t x (h .n)) ∙ q))
-    go (some es) q = (es, refl)
 
 module _ (h : Head) (card : List ℕ) (hq : headOf card ≡ some h) (e : Entry) (p : List Visit) (w : walk h card latest (e .key) ≡ some p) where
   abbrev first : ℕ
@@ -159,6 +152,53 @@ module _ (h : Head) (card : List ℕ) (hq : headOf card ≡ some h) (e : Entry) 
 
   pub top-within : full ≡ false → top .fresh ≤ h .n + 1
   top-within q = subst (λ (r : Rise). r .fresh ≤ h .n + 1) (sym (top-is q)) (within q)
+
+  -- the count told what the way up does
+  told : full ≡ false → counted ≡ tallyOf up
+  told q =
+      let more = rooted-fresh h (e .stamp) (up .hand) up in
+      let lim = within q in
+      ⊎-elim
+      (λ (z : counted ≡ tallyOf up). z)
+      (λ (z : (h .n + 1 < up .fresh) × (h .n + 1 < counted .fresh)). absurd (omega (arith, z .0)))
+      (foretells h card hq latest (e .key) (e .stamp) (e ∷ []) [] p w)
+
+  needs-fresh : full ≡ false → needsOf counted .fresh ≡ freshAfter h card e p
+  unfolding needsOf freshAfter
+  needs-fresh q = ap (λ (y : Tally). freshOver (y .hand) (y .fresh)) (told q) ∙ sym (top-fresh h (e .stamp) (up .hand) up)
+
+  needs-root : full ≡ false → needsOf counted .root ≡ isOpen (up .hand)
+  unfolding needsOf
+  needs-root q = ap (λ (y : Tally). isOpen (y .hand)) (told q)
+
+  pub some-fresh : full ≡ false → (1 ≤ needsOf counted .fresh) × (needsOf counted .fresh ≤ 4097)
+  unfolding freshAfter
+  some-fresh q =
+      let is = needs-fresh q in
+      let lim = within q in
+      let more = rooted-fresh h (e .stamp) (up .hand) up in
+      let mono = climb-mono h (e .stamp) p (risen (e ∷ []) first card) in
+      let n = head-facts card h hq .0 .n4096 in
+      (omega arith, omega arith)
+
+  -- the two numbers of the card that is left
+  module _ (by : Bytes card) (fine : Fine (h .n) e) (q : full ≡ false) where
+    pub used-left : needsOf counted .fresh - 1 ≡ topUsed h (top .card) (h .n)
+    used-left =
+        let is = needs-fresh q in
+        let next = planned-next h card hq by e fine (e .key) p w (top .card) (plan-room q) .0 in
+        omega arith
+
+    pub root-left : (root : ℕ) → root ≡ rootNow h card → if (needsOf counted .root) (needsOf counted .fresh - 1) root ≡ rootNow h (top .card)
+    unfolding isOpen
+    root-left root is = ap (λ (b : Bool). if b (needsOf counted .fresh - 1) root) (needs-root q) ∙ go (up .hand) refl
+      where
+        go : (hand : List Entry) → up .hand ≡ hand → if (isOpen hand) (needsOf counted .fresh - 1) root ≡ rootNow h (top .card)
+        go [] z = is ∙ sym (root-stays h card hq by e fine p w (top .card) (plan-room q) z)
+        go (d ∷ es) z =
+            let f = needs-fresh q in
+            let next = root-moves h card hq by e fine p w (top .card) (plan-room q) d es z in
+            omega arith
 
 none-left : (a n : ℕ) → a ≤ n → eqb a n ≡ eqb (n - a) 0
 none-left a n le =

@@ -8,8 +8,13 @@ use lib.Dec.{eqb}
 use Rattle.rules.specs.declared.Head.{Head}
 use Rattle.rules.specs.Plain.{if}
 use Rattle.rules.specs.Walk.{Visit, walk}
-use Rattle.rules.specs.Write.{Plan, planAnswer, planCard, latest}
+use Rattle.rules.specs.Layout.{headOf}
+use Rattle.rules.specs.Write.{Plan, planAnswer, planCard, latest, topUsed}
+use Rattle.laws.proofs.Entries.{Fine}
+use Rattle.laws.proofs.Roots.{rootNow}
 use Rattle.scan.specs.declared.Found.{Found}
+use Rattle.write.specs.declared.Task.{Task}
+use Rattle.write.specs.declared.Entered.{Entered}
 use Rattle.write.specs.declared.Outcome.{Outcome}
 use Rattle.scan.specs.declared.Found.the-variants.{Damage, Nothing, Hit}
 
@@ -28,9 +33,22 @@ walked h card x = pathOr (walk h card latest x)
 abbrev pub Came : Head → List ℕ → ℕ → Type 0
 Came h card x = walk h card latest x ≡ some (walked h card x)
 
--- a path of so many places was tried, for a walk of n buckets at most: the plan was followed, or the card is as it was
-pub record Tried (r : Outcome) (places n : ℕ) (card after : List ℕ) (p : Plan) : Type 0 where
-  pub answer : r .deep ≡ false → r .answer ≡ planAnswer p
-  pub bytes : r .deep ≡ false → after ≡ planCard card p
+-- what is known where a write begins: the head, the entry, which can be written, the highest bucket used and the root
+pub record Begins (h : Head) (card : List ℕ) (task : Task) : Type 0 where
+  pub head : headOf card ≡ some h
+  pub fine : Fine (h .n) (task .entry)
+  pub used : task .used ≡ topUsed h card (h .n)
+  pub root : task .root ≡ rootNow h card
+
+-- the plan was followed: its number, the card, and the two numbers of that card
+pub record Did (r : Entered) (h : Head) (card after : List ℕ) (p : Plan) : Type 0 where
+  pub code : r .code ≡ planAnswer p .code
+  pub bytes : after ≡ planCard card p
+  pub used : r .used ≡ topUsed h after (h .n)
+  pub root : r .root ≡ rootNow h after
+
+-- a path of so many places was tried: the plan was followed, or the card is as it was
+pub record Tried (r : Outcome) (places : ℕ) (h : Head) (card after : List ℕ) (p : Plan) : Type 0 where
+  pub did : r .deep ≡ false → Did (r .entered) h card after p
   pub same : r .deep ≡ true → after ≡ card
-  pub few : r .deep ≡ true → places < n
+  pub few : r .deep ≡ true → places < h .n

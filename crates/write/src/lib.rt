@@ -9,18 +9,18 @@ use walk::Layout;
 ghost use mathlib.Core.Path.{_≡_};
 ghost use mathlib.Core.Option.{some};
 ghost use mathlib.Core.List.{List, []};
-ghost use Prim.Native.Nat.{_+_, _≤_, _<_};
+ghost use Prim.Native.Nat.{_+_, _-_, _≤_};
 ghost use lib.Dec.{ltb, eqb};
 ghost use lib.ListN.{length, drop};
 ghost use Rattle.rules.specs.declared.Entry.{Entry};
-ghost use Rattle.rules.specs.Plain.{_&_, _or_};
-ghost use Rattle.rules.specs.Layout.{headOf};
+ghost use Rattle.rules.specs.Plain.{if, _&_, _or_};
 ghost use Rattle.rules.specs.Bucket.{log, logBlanks};
 ghost use Rattle.rules.specs.Walk.{walk};
-ghost use Rattle.rules.specs.Write.{planAnswer, planCard, planOn, planAt, plan, post, strike, topUsed};
+ghost use Rattle.rules.specs.Write.{planAnswer, planCard, planOn, planAt, plan, post, strike};
+ghost use Rattle.laws.proofs.Entries.{Asks};
 ghost use Rattle.bucket.specs.Shapes.{Shape};
 ghost use Rattle.climb.specs.Levels.{upward};
-ghost use Rattle.write.specs.Plans.{codeOf, walked, Came, Tried};
+ghost use Rattle.write.specs.Plans.{codeOf, walked, Came, Begins, Did, Tried};
 
 // Whether the log has no blank sector.
 fn log_full(card: &[u8], head: Head) -> bool
@@ -46,13 +46,42 @@ fn too_full(card: &[u8], head: Head, needs: Needs) -> bool
     false
 }
 
-// The entry goes in along the path that the walk met: all that can refuse is known before the first byte is written.
-fn lay(card: &mut [u8], head: Head, e: Entry, path: &[u32], start: usize, used: usize) -> Answer
-    requires { ⌜ (headOf (now card) ≡ some head) × Came head (now card) (e .key) × (e .kind < 256) × (used ≡ topUsed head (now card) (head .n)) ⌝ }
-    requires { ⌜ (drop start (now path) ≡ upward (walked head (now card) (e .key)) []) × (start ≤ length (now path)) × (length (now path) ≤ 4096) ⌝ }
-    ensures { λ r. ⌜ r ≡ planAnswer (planOn head (now (card .entry)) e (walked head (now (card .entry)) (e .key))) ⌝ }
-    ensures { λ _. ⌜ now (card .exit) ≡ planCard (now (card .entry)) (planOn head (now (card .entry)) e (walked head (now (card .entry)) (e .key))) ⌝ }
+// An entry to be laid down, and what is known of the card: the highest bucket with a nonzero byte, the root, and whether the
+// walk is known to be a deep one.
+pub struct Task {
+    pub entry: Entry,
+    pub used: usize,
+    pub root: u32,
+    pub deep: bool,
+}
+
+// What a write answers, and what the next one starts from: the highest bucket used afterwards, and the root.
+pub struct Entered {
+    pub code: u32,
+    pub used: usize,
+    pub root: u32,
+}
+
+// The root after a write: a new one is the last bucket taken.
+fn root_after(needs: Needs, root: u32) -> u32
+    requires { ⌜ (1 ≤ needs .fresh) × (needs .fresh ≤ 4097) ⌝ }
+    ensures { λ r. ⌜ r ≡ if (needs .root) (needs .fresh - 1) root ⌝ }
 {
+    if needs.root {
+        return (needs.fresh - 1) as u32;
+    }
+    root
+}
+
+// The entry goes in along the path that the walk met: all that can refuse is known before the first byte is written.
+fn lay(card: &mut [u8], head: Head, task: Task, path: &[u32], start: usize) -> Entered
+    requires { ⌜ Begins head (now card) task × Came head (now card) (task .entry .key) ⌝ }
+    requires { ⌜ (drop start (now path) ≡ upward (walked head (now card) (task .entry .key)) []) × (start ≤ length (now path)) × (length (now path) ≤ 4096) ⌝ }
+    ensures { λ r. ⌜ Did r head (now (card .entry)) (now (card .exit)) (planOn head (now (card .entry)) (task .entry) (walked head (now (card .entry)) (task .entry .key))) ⌝ }
+{
+    let e = task.entry;
+    let used = task.used;
+    let root = task.root;
     let stamp = e.stamp;
     let fresh = used + 1;
     let sent = Sent {
@@ -62,10 +91,18 @@ fn lay(card: &mut [u8], head: Head, e: Entry, path: &[u32], start: usize, used: 
     };
     let needs = climb::count(card, head, path, start, sent, fresh, stamp);
     if too_full(card, head, needs) {
-        return walk::refusal(6);
+        return Entered {
+            code: 6,
+            used,
+            root,
+        };
     }
     rise::rise(card, path, start, sent, fresh, head, stamp);
-    walk::refusal(0)
+    Entered {
+        code: 0,
+        used: needs.fresh - 1,
+        root: root_after(needs, root),
+    }
 }
 
 // What the walk's end has against an entry of this kind: damage, or a strike where nothing stands; 0 is nothing.
@@ -92,93 +129,89 @@ fn objection(kind: u32, found: Found) -> u32
     }
 }
 
-// What came of a lent path: the write's answer, or that the walk has more buckets than the path has places.
+// What came of a lent path: what the write gives, or that the walk has more buckets than the path has places.
 pub struct Outcome {
     pub deep: bool,
-    pub answer: Answer,
+    pub entered: Entered,
 }
 
 // The entry in its bucket, or what refuses it from the walk on, where the path that was lent has places enough.
-// `used` is the highest bucket with a nonzero byte.
-fn along(card: &mut [u8], head: Head, e: Entry, used: usize, path: &mut [u32]) -> Outcome
-    requires { ⌜ (headOf (now card) ≡ some head) × (e .kind < 256) × (used ≡ topUsed head (now card) (head .n)) × (length (now path) ≤ 4096) ⌝ }
-    ensures { λ r. ⌜ Tried r (length (now (path .entry))) (head .n) (now (card .entry)) (now (card .exit)) (planAt head (now (card .entry)) e (walk head (now (card .entry)) 4294967295 (e .key))) ⌝ }
+fn along(card: &mut [u8], head: Head, task: Task, path: &mut [u32]) -> Outcome
+    requires { ⌜ Begins head (now card) task × (length (now path) ≤ 4096) ⌝ }
+    ensures { λ r. ⌜ Tried r (length (now (path .entry))) head (now (card .entry)) (now (card .exit)) (planAt head (now (card .entry)) (task .entry) (walk head (now (card .entry)) 4294967295 (task .entry .key))) ⌝ }
 {
-    let t = trail::walk_down(card, head, e.key, path);
+    let used = task.used;
+    let root = task.root;
+    let t = trail::walk_down(card, head, root, task.entry.key, path);
     if t.deep {
         return Outcome {
             deep: true,
-            answer: walk::refusal(4),
+            entered: Entered {
+                code: 4,
+                used,
+                root,
+            },
         };
     }
     let start = t.start;
     let found = t.found;
-    let code = objection(e.kind, found);
+    let code = objection(task.entry.kind, found);
     if code != 0 {
         return Outcome {
             deep: false,
-            answer: walk::refusal(code),
+            entered: Entered { code, used, root },
         };
     }
-    let answer = lay(card, head, e, path, start, used);
+    let entered = lay(card, head, task, path, start);
     Outcome {
         deep: false,
-        answer,
+        entered,
     }
 }
 
-fn on_short_path(card: &mut [u8], head: Head, e: Entry, used: usize) -> Outcome
-    requires { ⌜ (headOf (now card) ≡ some head) × (e .kind < 256) × (used ≡ topUsed head (now card) (head .n)) ⌝ }
-    ensures { λ r. ⌜ Tried r 16 (head .n) (now (card .entry)) (now (card .exit)) (planAt head (now (card .entry)) e (walk head (now (card .entry)) 4294967295 (e .key))) ⌝ }
+fn on_short_path(card: &mut [u8], head: Head, task: Task) -> Outcome
+    requires { ⌜ Begins head (now card) task ⌝ }
+    ensures { λ r. ⌜ Tried r 16 head (now (card .entry)) (now (card .exit)) (planAt head (now (card .entry)) (task .entry) (walk head (now (card .entry)) 4294967295 (task .entry .key))) ⌝ }
 {
     let mut path = [0u32; 16];
-    along(card, head, e, used, &mut path)
+    along(card, head, task, &mut path)
 }
 
 // No walk has more than 4,096 buckets.
-fn on_long_path(card: &mut [u8], head: Head, e: Entry, used: usize) -> Answer
-    requires { ⌜ (headOf (now card) ≡ some head) × (e .kind < 256) × (used ≡ topUsed head (now card) (head .n)) ⌝ }
-    ensures { λ r. ⌜ r ≡ planAnswer (planAt head (now (card .entry)) e (walk head (now (card .entry)) 4294967295 (e .key))) ⌝ }
-    ensures { λ _. ⌜ now (card .exit) ≡ planCard (now (card .entry)) (planAt head (now (card .entry)) e (walk head (now (card .entry)) 4294967295 (e .key))) ⌝ }
+fn on_long_path(card: &mut [u8], head: Head, task: Task) -> Entered
+    requires { ⌜ Begins head (now card) task ⌝ }
+    ensures { λ r. ⌜ Did r head (now (card .entry)) (now (card .exit)) (planAt head (now (card .entry)) (task .entry) (walk head (now (card .entry)) 4294967295 (task .entry .key))) ⌝ }
 {
     let mut path = [0u32; 4096];
-    let o = along(card, head, e, used, &mut path);
-    o.answer
-}
-
-// An entry to be laid down, the highest bucket with a nonzero byte, and whether the walk is known to be a deep one.
-pub struct Task {
-    pub entry: Entry,
-    pub used: usize,
-    pub deep: bool,
+    let o = along(card, head, task, &mut path);
+    o.entered
 }
 
 // The entry in its bucket, or what refuses it from the walk on. A short path is tried first, since a card of ours is a few
 // buckets deep. Where it does not do the function calls itself for the long one, whose 16 KiB so stay out of its own frame.
-fn insert(card: &mut [u8], head: Head, task: Task) -> Answer
-    requires { ⌜ (headOf (now card) ≡ some head) × (task .entry .kind < 256) × (task .used ≡ topUsed head (now card) (head .n)) ⌝ }
-    ensures { λ r. ⌜ r ≡ planAnswer (planAt head (now (card .entry)) (task .entry) (walk head (now (card .entry)) 4294967295 (task .entry .key))) ⌝ }
-    ensures { λ _. ⌜ now (card .exit) ≡ planCard (now (card .entry)) (planAt head (now (card .entry)) (task .entry) (walk head (now (card .entry)) 4294967295 (task .entry .key))) ⌝ }
+pub fn insert(card: &mut [u8], head: Head, task: Task) -> Entered
+    requires { ⌜ Begins head (now card) task ⌝ }
+    ensures { λ r. ⌜ Did r head (now (card .entry)) (now (card .exit)) (planAt head (now (card .entry)) (task .entry) (walk head (now (card .entry)) 4294967295 (task .entry .key))) ⌝ }
 {
-    let entry = task.entry;
-    let used = task.used;
     if task.deep {
-        return on_long_path(card, head, entry, used);
+        return on_long_path(card, head, task);
     }
-    let o = on_short_path(card, head, entry, used);
+    let o = on_short_path(card, head, task);
     if o.deep {
+        let entry = task.entry;
         let again = Task {
             entry,
-            used,
+            used: task.used,
+            root: task.root,
             deep: true,
         };
         return insert(card, head, again);
     }
-    o.answer
+    o.entered
 }
 
 fn enter(card: &mut [u8], e: Entry) -> Answer
-    requires { ⌜ e .kind < 256 ⌝ }
+    requires { ⌜ Asks e ⌝ }
     ensures { λ r. ⌜ r ≡ planAnswer (plan (now (card .entry)) e) ⌝ }
     ensures { λ _. ⌜ now (card .exit) ≡ planCard (now (card .entry)) (plan (now (card .entry)) e) ⌝ }
 {
@@ -196,9 +229,11 @@ fn enter(card: &mut [u8], e: Entry) -> Answer
     let task = Task {
         entry: e,
         used: area.used,
+        root: trail::root_of(card, head),
         deep: false,
     };
-    insert(card, head, task)
+    let entered = insert(card, head, task);
+    walk::refusal(entered.code)
 }
 
 // A new time or a correction.

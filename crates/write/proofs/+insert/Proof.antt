@@ -26,34 +26,35 @@ abbrev claims : ℕ → insert-lts.Claims
 claims t = (on-long-path-reads.Asked, on-long-path-reads.Learnt, on-short-path-reads.Asked, on-short-path-reads.Learnt, insert-below t, insert.Post)
 
 insert-on-long-path-requires : (t : ℕ) → insert-lts.Need-on-long-path-requires (claims t) (insert-at t) insert.Post
-insert-on-long-path-requires t c κs = c .before .before .before .before .pre .1
+insert-on-long-path-requires t c κs = c .before .before .before .pre .1
 
 insert-returns : (t : ℕ) → insert-lts.Need-returns (claims t) (insert-at t) insert.Post
 insert-returns t c = c .before .before .on-long-path .ensures
 
 insert-on-short-path-requires : (t : ℕ) → insert-lts.Need-on-short-path-requires (claims t) (insert-at t) insert.Post
-insert-on-short-path-requires t c κs = c .before .before .before .before .pre .1
+insert-on-short-path-requires t c κs = c .before .before .before .pre .1
 
 insert-insert-requires : (t : ℕ) → insert-lts.Need-insert-requires (claims t) (insert-at t) insert.Post
 insert-insert-requires t c κs =
-    let at-short = c .before .before .before .before in
+    let at-short = c .before .before .before .before .before in
     let at-if1 = at-short .before .before in
-    let o = at-if1 .before .before .before in
-    let as-it-was = at-short .on-short-path .ensures .same (c .before .if2 .taken) in
+    let o = at-if1 .before .before in
+    let as-it-was = at-short .on-short-path .ensures .same (c .before .before .if2 .taken) in
     let first = rw (at-if1 .if1 .left) at (o .pre .0) in
-    (omega arith, rw as-it-was (o .pre .1))
+    let b = o .pre .1 in
+    (omega arith, rw as-it-was (record { head = b .head; fine = b .fine; used = b .used; root = b .root }))
 
 insert-returns-2 : (t : ℕ) → insert-lts.Need-returns-2 (claims t) (insert-at t) insert.Post
 insert-returns-2 t c =
     let at-insert = c .before .before in
-    let at-short = at-insert .before .before .before .before .before in
-    let as-it-was = at-short .on-short-path .ensures .same (at-insert .before .before .if2 .taken) in
+    let at-short = at-insert .before .before .before .before .before .before in
+    let as-it-was = at-short .on-short-path .ensures .same (at-insert .before .before .before .if2 .taken) in
     rw as-it-was at (at-insert .insert .ensures)
 
 insert-returns-3 : (t : ℕ) → insert-lts.Need-returns-3 (claims t) (insert-at t) insert.Post
 insert-returns-3 t c =
     let t = c .before .before .before .before .on-short-path .ensures in
-    (t .answer (c .before .if2 .left), t .bytes (c .before .if2 .left))
+    t .did (c .before .if2 .left)
 
 pub +insert-spec : {M : Type 1} → statement M
 +insert-spec =

@@ -14,9 +14,9 @@ returns c =
     let at-along = c .before .before .before .before in
     let o = at-along .before .before .before .before in
     let t = at-along .along .ensures in
-    let most = shape-of (o .args .card .now) (o .args .head) (o .pre .0) .lim .n4096 in
+    let most = shape-of (o .args .card .now) (o .args .head) (o .pre .head) .lim .n4096 in
     let no : at-along .along .result .deep ≡ false = ⊎-elim (λ yes. absurd (omega (arith, t .few yes, most))) (λ q. q) (bool-cases (at-along .along .result .deep)) in
-    (t .answer no, t .bytes no)
+    t .did no
 
 pub on-long-path-spec : {M : Type 1} → statement M
 on-long-path-spec = tie.close (tie.spec (λ c. search needs) (λ c κs. search needs) (λ c. search needs) returns)
