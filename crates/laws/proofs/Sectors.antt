@@ -20,24 +20,29 @@ sector-put-same card i bs hb h =
     ∙ take-at bs (drop (16 * i + 16) card) 16 hb
 
 -- a sector that lies in the front
-front : (p x y : List ℕ) (j : ℕ) → 16 * j + 16 ≤ length p → sectorAt (p ++ x) j ≡ sectorAt (p ++ y) j
+pub sector-front : (p z : List ℕ) (j : ℕ) → 16 * j + 16 ≤ length p → sectorAt (p ++ z) j ≡ sectorAt p j
 unfolding sectorAt
-front p x y j h = one x ∙ sym (one y)
-  where
-    one : (z : List ℕ) → take 16 (drop (16 * j) (p ++ z)) ≡ take 16 (drop (16 * j) p)
-    one z =
-        ap (take 16) (drop-append-le (16 * j) p z (omega arith))
-        ∙ take-append-le 16 (drop (16 * j) p) z (simp length-drop (omega arith))
+sector-front p z j h =
+    ap (take 16) (drop-append-le (16 * j) p z (omega arith)) ∙ take-append-le 16 (drop (16 * j) p) z (simp length-drop (omega arith))
+
+front : (p x y : List ℕ) (j : ℕ) → 16 * j + 16 ≤ length p → sectorAt (p ++ x) j ≡ sectorAt (p ++ y) j
+front p x y j h = sector-front p x j h ∙ sym (sector-front p y j h)
 
 -- a sector that lies behind
+drop-behind : (r z : List ℕ) (k : ℕ) → length r ≤ k → drop k (r ++ z) ≡ drop (k - length r) z
+drop-behind r z k hr =
+    let eq : k ≡ length r + (k - length r) = omega arith in
+    ap (λ n. drop n (r ++ z)) eq ∙ drop-append-add r z (k - length r)
+
+pub sector-behind : (r z : List ℕ) (n j : ℕ) → length r ≡ 16 * n → sectorAt (r ++ z) (n + j) ≡ sectorAt z j
+unfolding sectorAt
+sector-behind r z n j e =
+    let over : 16 * (n + j) - length r ≡ 16 * j = omega arith in
+    ap (take 16) (drop-behind r z (16 * (n + j)) (omega arith) ∙ ap (λ k. drop k z) over)
+
 back : (p q z : List ℕ) (j : ℕ) → length p ≡ length q → length p ≤ 16 * j → sectorAt (p ++ z) j ≡ sectorAt (q ++ z) j
 unfolding sectorAt
-back p q z j e h = ap (take 16) (one p h ∙ ap (λ n. drop (16 * j - n) z) e ∙ sym (one q (omega arith)))
-  where
-    one : (r : List ℕ) → length r ≤ 16 * j → drop (16 * j) (r ++ z) ≡ drop (16 * j - length r) z
-    one r hr =
-        let eq : 16 * j ≡ length r + (16 * j - length r) = omega arith in
-        ap (λ n. drop n (r ++ z)) eq ∙ drop-append-add r z (16 * j - length r)
+back p q z j e h = ap (take 16) (drop-behind p z (16 * j) h ∙ ap (λ n. drop (16 * j - n) z) e ∙ sym (drop-behind q z (16 * j) (omega arith)))
 
 pub sector-put-other : (card : List ℕ) (i j : ℕ) (bs : List ℕ) → length bs ≡ 16 → 16 * i + 16 ≤ length card → (j ≡ i → ⊥)
     → sectorAt (put card i bs) j ≡ sectorAt card j

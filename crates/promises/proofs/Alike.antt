@@ -11,7 +11,6 @@ use Rattle.rules.specs.declared.Head.{Head}
 use Rattle.rules.specs.Layout.{headOf, sizeOf}
 use Rattle.rules.specs.Walk.{Visit, standsOn, dataOf, walk, left}
 use Rattle.rules.specs.Next.{next}
-use Rattle.rules.specs.Calls.{Call}
 use Rattle.rules.specs.Look.{lookOn, lookIn, look}
 use Rattle.rules.specs.Write.{accept}
 use Rattle.rules.specs.Format.{format, formatted, meant}
@@ -28,7 +27,7 @@ use Rattle.tree.proofs.Climb.{upd}
 use Rattle.promises.specs.Promises.{CardsAnswerAlike}
 use Rattle.tree.proofs.Found.{Found, found-one}
 use Rattle.tree.proofs.Hops.{given}
-use Rattle.promises.specs.Calls.{Formatted, AllSized, cardAfter, accepted}
+use Rattle.promises.specs.Calls.{Formatted, Act, AllSized, cardAfter, accepted}
 use Rattle.promises.specs.Reading.{upTo, lastFor, ifPost, standsAsOf}
 use Rattle.promises.proofs.Numbers.{formatted-plan}
 use Rattle.promises.proofs.Reading.{up-to-left}
@@ -121,7 +120,7 @@ looks-alike h c g begin s ke t le es fs d b p q agree x lt =
     (sym (alike-length t (u .0) (u .1) (u .4)) ∙ ap length meet ∙ alike-length t (v .0) (v .1) (v .4))
     (sym (alike-data t (u .0) (u .1) (u .4)) ∙ ap (λ z. left t (dataOf z)) meet ∙ alike-data t (v .0) (v .1) (v .4))
 
-nexts-alike : (h : Head) (card other : List ℕ) → Formatted h card → Formatted h other → (calls others : List Call) → AllSized calls → AllSized others
+nexts-alike : (h : Head) (card other : List ℕ) → Formatted h card → Formatted h other → (calls others : List Act) → AllSized calls → AllSized others
     → (t : ℕ) → upTo t (accepted card calls) ≡ upTo t (accepted other others) → (k : ℕ) → k < 4294967296
     → next (cardAfter card calls) k t ≡ next (cardAfter other others) k t
 unfolding standsAsOf

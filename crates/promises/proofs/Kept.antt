@@ -7,6 +7,7 @@ use Rattle.promises.proofs.Taken.{post-is-taken, strike-is-taken}
 use Rattle.promises.proofs.Settled.{calls-are-settled, panel-is-settled, refused-means-unchanged, reads-change-nothing}
 use Rattle.promises.proofs.Scrolled.{records-are-settled, scroll-is-settled, scroll-says-again}
 use Rattle.promises.proofs.Stated.{state-tells-the-truth, state-tells-the-next, state-is-settled}
+use Rattle.promises.proofs.Batches.{batch-is-one-by-one, batch-cut-in-two, refused-does-not-stop, batch-is-settled}
 
 pub all-kept : Promises
 all-kept =
@@ -28,4 +29,8 @@ all-kept =
       state-tells-the-truth = state-tells-the-truth;
       state-tells-the-next = state-tells-the-next;
       state-is-settled = state-is-settled;
+      batch-is-one-by-one = batch-is-one-by-one;
+      batch-cut-in-two = batch-cut-in-two;
+      refused-does-not-stop = refused-does-not-stop;
+      batch-is-settled = batch-is-settled;
     }

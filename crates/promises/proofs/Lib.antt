@@ -8,4 +8,5 @@ pub mod Taken
 pub mod Settled
 pub mod Scrolled
 pub mod Stated
+pub mod Batches
 pub mod Kept

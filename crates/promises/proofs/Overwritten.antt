@@ -1,21 +1,25 @@
 -- Nothing is overwritten, on any card.
 use mathlib.Core.Option.{Option, none, some}
-use mathlib.Core.Bool.{true, false}
-use Prim.Native.Nat.{ℕ, suc, _+_, _*_, _≤_}
+use mathlib.Core.Bool.{Bool, true, false}
+use mathlib.Core.Logic.{⊎-elim}
+use Prim.Native.Nat.{ℕ, zero, suc, _+_, _*_, _≤_}
 use mathlib.Core.Path.{refl, sym, ap, subst, _∙_, _≡_}
-use mathlib.Core.List.{List, [], _∷_}
+use mathlib.Core.List.{List, [], _∷_, _++_}
 use lib.ListN.{length, replicate}
 use native.Mathlib.Omega.{arith}
 use Rattle.rules.specs.declared.Entry.{Entry}
 use Rattle.rules.specs.declared.Head.{Head}
 use Rattle.rules.specs.Layout.{headOf, sizeOf, headBytes}
-use Rattle.rules.specs.Sector.{sectorAt, rootEntry, postEntry, strikeEntry, indexEntry, put, encode}
+use Rattle.rules.specs.Batch.{Batch, wellAsked, request, requestsIn, cardOf, answersTo, paired, batch}
+use Rattle.rules.specs.Sector.{sectorAt, fields, rootEntry, postEntry, strikeEntry, indexEntry, put, encode}
 use Rattle.rules.specs.Write.{Plan, planFor, planCard, post, strike, plan, accept, refuse}
 use Rattle.rules.specs.Format.{formatFor, format, formatted, dummy, meant}
 use Rattle.rules.specs.Calls.{Call, formatCall, postCall, strikeCall, lookCall, nextCall, called, planned, answered}
 use Rattle.rules.specs.Rewrite.{into}
-use Rattle.rules.specs.Plain.{zeros}
-use Rattle.laws.proofs.Bytes.{Bytes, get-bytes}
+use Rattle.rules.specs.Plain.{if, zeros}
+use Rattle.laws.proofs.Bytes.{Bytes, get-bytes, bytes-sector}
+use Rattle.laws.proofs.Carries.{bytes-after}
+use Rattle.laws.proofs.Requests.{well-asks, no-card, ill-asked, asked}
 use Rattle.laws.proofs.Codec.{length-encode}
 use Rattle.laws.proofs.Heads.{Lim, limits-hold, head-facts, head-length, head-says}
 use Rattle.laws.proofs.Into.{Stays}
@@ -23,12 +27,12 @@ use Rattle.laws.proofs.Plans.{no-accept}
 use Rattle.laws.proofs.Puts.{Puts, in-card}
 use Rattle.laws.proofs.Entries.{root-says, Asks, post-asks, strike-asks}
 use Rattle.laws.proofs.Sectors.{length-put, sector-put-same, sector-put-other, sector-lies, sector-length}
-use Rattle.laws.proofs.Tools.{true-false}
+use Rattle.laws.proofs.Tools.{bool-cases, true-false}
 use Rattle.laws.proofs.Writes.{call-puts, format-chain}
 use Rattle.laws.proofs.Zeros.{zero-sector, sixteen-zeros, zeros-sixteen}
 use Rattle.tree.proofs.Begin.{format-inv}
-use Rattle.promises.specs.Promises.{OfBytes, NoneOf, AllDifferent, WrittenAt, NothingIsOverwritten}
-use Rattle.promises.specs.Calls.{Sized}
+use Rattle.promises.specs.Promises.{NoneOf, AllDifferent, WrittenAt, NothingIsOverwritten}
+use Rattle.promises.specs.Calls.{Act, single, together, AllSized, cardBy, Sized}
 
 blank-lies : (card : List ℕ) (i : ℕ) → sectorAt card i ≡ replicate 16 0 → 16 * i + 16 ≤ length card
 blank-lies card i e = sector-lies card i (ap length e)
@@ -147,5 +151,55 @@ call-left card by (strikeCall bib at) s =
 call-left card by (lookCall bib t) s = ([], refl)
 call-left card by (nextCall bib t) s = ([], refl)
 
+-- the requests of a batch, one after the other: each leaves a card of bytes again
+plan-bytes : (card : List ℕ) → Bytes card → (e : Entry) → Asks e → (o : Option Head) → headOf card ≡ o → (p : Plan) → plan card e ≡ p → Bytes (planCard card p)
+unfolding planCard
+plan-bytes card by e a o hq (refuse c) q = by
+plan-bytes card by e a none hq (accept new) q = absurd (headless card e new hq q)
+plan-bytes card by e a (some h) hq (accept new) q = bytes-after h card hq by e a new q
+
+abbrev LeftBytes : List ℕ → List ℕ → Type 0
+LeftBytes card new = Left card new × Bytes new
+
+request-left : (card : List ℕ) → Bytes card → (r : List ℕ) → Bytes r → LeftBytes card (planCard card (request card r))
+unfolding planCard
+request-left card by r br = go (headOf card) refl
+  where
+    go : (o : Option Head) → headOf card ≡ o → LeftBytes card (planCard card (request card r))
+    go none hq = subst (λ (p : Plan). LeftBytes card (planCard card p)) (sym (no-card card r hq)) (([], refl), by)
+    go (some h) hq =
+        ⊎-elim
+        (λ (w : wellAsked r ≡ true).
+        let a = well-asks r br w in
+        subst (λ (p : Plan). LeftBytes card (planCard card p)) (sym (asked card r h hq w))
+        (plan-left card by (fields r) a (some h) hq (plan card (fields r)) refl, plan-bytes card by (fields r) a (some h) hq (plan card (fields r)) refl))
+        (λ (w : wellAsked r ≡ false). subst (λ (p : Plan). LeftBytes card (planCard card p)) (sym (ill-asked card r h hq w)) (([], refl), by))
+        (bool-cases (wellAsked r))
+
+written-more : (card : List ℕ) (is : List ℕ) (new : List ℕ) (js : List ℕ) (last : List ℕ) → WrittenAt card is new → WrittenAt new js last → WrittenAt card (is ++ js) last
+written-more card [] new js last w v = subst (λ c. WrittenAt c js last) (sym w) v
+written-more card (i ∷ is) new js last w v = (w .0, w .1, w .2, w .3, written-more (put card i (w .0)) is new js last (w .4) v)
+
+requests-left : (card : List ℕ) → Bytes card → (bytes : List ℕ) → Bytes bytes → (i n : ℕ) → Left card (cardOf card (requestsIn bytes i n))
+unfolding cardOf requestsIn
+requests-left card by bytes bb i zero = ([], refl)
+requests-left card by bytes bb i (suc n) =
+    let one = request-left card by (sectorAt bytes i) (bytes-sector bytes i bb) in
+    let new = planCard card (request card (sectorAt bytes i)) in
+    let two = requests-left new (one .1) bytes bb (suc i) n in
+    (one .0 .0 ++ two .0, written-more card (one .0 .0) new (two .0) (cardOf new (requestsIn bytes (suc i) n)) (one .0 .1) (two .1))
+
+act-left : (card : List ℕ) → Bytes card → (a : Act) → AllSized (a ∷ []) → Left card (cardBy card a)
+unfolding cardBy batch
+act-left card by (single k) z = call-left card by k (z .0)
+act-left card by (together requests answers) z = go (paired requests answers)
+  where
+    rs : List (List ℕ)
+    rs = requestsIn requests 0 (length answers)
+
+    go : (b : Bool) → Left card ((if {A = Batch} b (record { code = 0; card = cardOf card rs; answers = answersTo card rs }) (record { code = 12; card = card; answers = answers })) .card)
+    go true = requests-left card by requests (get-bytes requests (z .0)) 0 (length answers)
+    go false = ([], refl)
+
 pub nothing-is-overwritten : NothingIsOverwritten
-nothing-is-overwritten card by k s = left-promise card (called card k .card) (call-left card (get-bytes card by) k s)
+nothing-is-overwritten card by a z = left-promise card (cardBy card a) (act-left card (get-bytes card by) a z)

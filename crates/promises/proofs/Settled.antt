@@ -87,7 +87,7 @@ unfolding nextIn
 next-bare k t card none = bare-refused 1
 next-bare k t card (some h) = from-bare (walk h card t) k t 4294967296 k
 
-plan-same : (card : List ℕ) (p : Plan) → (planAnswer p .code ≡ 0 → ⊥) → planCard card p ≡ card
+pub plan-same : (card : List ℕ) (p : Plan) → (planAnswer p .code ≡ 0 → ⊥) → planCard card p ≡ card
 unfolding planCard planAnswer refused
 plan-same card (refuse c) n = refl
 plan-same card (accept new) n = absurd (n refl)

@@ -5,26 +5,27 @@ use mathlib.Core.Bool.{true, false, Bool, not}
 use Prim.Native.Nat.{ℕ, zero, suc, _<_}
 use mathlib.Core.Logic.{inl, inr, ⊎-elim, _⊎_}
 use mathlib.Core.List.{List, [], _∷_, _++_}
-use lib.ListN.{length, getD}
+use lib.ListN.{length}
 use lib.Dec.{eqb}
-use borrow.Author.Tests.{eqb-true}
-use native.Mathlib.Omega.{arith}
 use Rattle.rules.specs.declared.Entry.{Entry}
 use Rattle.rules.specs.declared.Head.{Head}
 use Rattle.rules.specs.Answers.{refused}
 use Rattle.rules.specs.Write.{Plan, refuse, accept, plan, planCard, planAnswer, post, strike, refuseIf}
-use Rattle.rules.specs.Sector.{sectorAt, postEntry, strikeEntry, word}
-use Rattle.rules.specs.Plain.{zeros, _&_}
-use Rattle.rules.specs.Layout.{limits, headOf, headIn, headFields, sizeOf}
+use Rattle.rules.specs.Sector.{sectorAt, fields, postEntry, strikeEntry}
+use Rattle.rules.specs.Plain.{if, zeros, _&_}
+use Rattle.rules.specs.Layout.{limits, headOf, sizeOf}
 use Rattle.rules.specs.Format.{format, formatFor, formatted, meant}
 use Rattle.rules.specs.Calls.{Call, formatCall, postCall, strikeCall, lookCall, nextCall, called, planned, answered}
-use Rattle.laws.proofs.Tools.{bool-cases, and-true, guard-true}
+use Rattle.rules.specs.Batch.{Batch, wellAsked, request, requestsIn, cardOf, answersTo, paired, batch}
+use Rattle.laws.proofs.Tools.{bool-cases}
+use Rattle.laws.proofs.Bytes.{Bytes, get-bytes, bytes-sector}
+use Rattle.laws.proofs.Requests.{well-asks, ill-asked, asked}
 use Rattle.laws.proofs.Heads.{head-written}
 use Rattle.laws.proofs.Zeros.{zero-sector}
 use Rattle.laws.proofs.Entries.{Asks, post-asks, strike-asks}
 use Rattle.laws.proofs.Numbers.{Numbered, plan-numbered}
 use Rattle.tree.proofs.Keeps.{Keeps, more, keeps-step}
-use Rattle.promises.specs.Calls.{Sized, AllSized, cardAfter, ifZero, taken, accepted, Above}
+use Rattle.promises.specs.Calls.{Act, single, together, Sized, AllSized, cardBy, cardAfter, ifZero, taken, entered, takenBy, accepted, Above}
 use Rattle.promises.specs.Reading.{lastStamp}
 
 -- each entry in turn is accepted, and the last of the cards is d
@@ -63,6 +64,15 @@ format-refused c h q n m td ti =
     let g = meant n m td ti in
     refused-inner (not (limits g & eqb (length c) (sizeOf g))) c (accept (formatted g c)) (head-nonzero c h q)
 
+-- of acts that are sized, the first and the rest are
+first : (a : Act) (acts : List Act) → AllSized (a ∷ acts) → AllSized (a ∷ [])
+first (single k) acts z = (z .0, tt)
+first (together requests answers) acts z = (z .0, tt)
+
+rest : (a : Act) (acts : List Act) → AllSized (a ∷ acts) → AllSized acts
+rest (single k) acts z = z .1
+rest (together requests answers) acts z = z .1
+
 -- a call on such a card adds no entry and leaves the card, or adds one entry that is accepted
 abbrev Step : List ℕ → List Entry → List ℕ → Type 0
 Step c es d = ((es ≡ []) × (d ≡ c)) ⊎ ((e : Entry) × Asks e × (plan c e ≡ accept d) × (es ≡ e ∷ []))
@@ -81,17 +91,58 @@ call-step h c hq (strikeCall bib at) s = plan-step c (strikeEntry bib at) (strik
 call-step h c hq (lookCall bib t) s = inl (refl, refl)
 call-step h c hq (nextCall bib t) s = inl (refl, refl)
 
-pub calls-since : (h : Head) (c : List ℕ) (g : ℕ → ℕ → Option Entry) (begin s : ℕ) → Keeps h c g begin s → (ks : List Call) → AllSized ks
-    → Since c (accepted c ks) (cardAfter c ks)
+-- and so does a request of a batch
+request-step : (h : Head) (c : List ℕ) → headOf c ≡ some h → (r : List ℕ) → Bytes r → Step c (ifZero (planAnswer (request c r) .code) (fields r)) (planCard c (request c r))
+unfolding ifZero planAnswer planCard refused
+request-step h c hq r by =
+    ⊎-elim
+    (λ (w : wellAsked r ≡ true).
+    rw (asked c r h hq w) (plan-step c (fields r) (well-asks r by w) (plan c (fields r)) (plan-numbered c (fields r)) refl))
+    (λ (w : wellAsked r ≡ false). rw (ill-asked c r h hq w) (inl (refl, refl)))
+    (bool-cases (wellAsked r))
+
+step-since : (c : List ℕ) (es : List Entry) (d : List ℕ) → Step c es d → Since c es d
+step-since c es d (inl a) = subst (λ z. Since c z d) (sym (a .0)) (sym (a .1))
+step-since c es d (inr a) = subst (λ z. Since c z d) (sym (a .3)) (d, a .1, a .2, refl)
+
+-- one way after the other
+since-more : (c : List ℕ) (es : List Entry) (d : List ℕ) (fs : List Entry) (b : List ℕ) → Since c es d → Since d fs b → Since c (es ++ fs) b
+since-more c [] d fs b p q = subst (λ z. Since z fs b) (sym p) q
+since-more c (e ∷ es) d fs b p q = (p .0, p .1, p .2, since-more (p .0) es d fs b (p .3) q)
+
+requests-since : (h : Head) (c : List ℕ) (g : ℕ → ℕ → Option Entry) (begin s : ℕ) → Keeps h c g begin s → (bytes : List ℕ) → Bytes bytes → (i n : ℕ)
+    → Since c (entered c (requestsIn bytes i n)) (cardOf c (requestsIn bytes i n))
+unfolding entered cardOf requestsIn
+requests-since h c g begin s ke bytes by i zero = refl
+requests-since h c g begin s ke bytes by i (suc n) =
+    let r = sectorAt bytes i in
+    let es = ifZero (planAnswer (request c r) .code) (fields r) in
+    let d = planCard c (request c r) in
+    let one = step-since c es d (request-step h c (ke .state .head) r (bytes-sector bytes i by)) in
+    since-more c es d (entered d (requestsIn bytes (suc i) n)) (cardOf d (requestsIn bytes (suc i) n)) one
+    (requests-since h d (after g es) begin (lastStamp s es) (since-keeps h c g begin s ke es d one .0) bytes by (suc i) n)
+
+act-since : (h : Head) (c : List ℕ) (g : ℕ → ℕ → Option Entry) (begin s : ℕ) → Keeps h c g begin s → (a : Act) → AllSized (a ∷ [])
+    → Since c (takenBy c a) (cardBy c a)
+unfolding takenBy cardBy batch
+act-since h c g begin s ke (single k) z = step-since c (taken c k) (called c k .card) (call-step h c (ke .state .head) k (z .0))
+act-since h c g begin s ke (together requests answers) z = go (paired requests answers)
+  where
+    rs : List (List ℕ)
+    rs = requestsIn requests 0 (length answers)
+
+    go : (b : Bool)
+        → Since c (if b (entered c rs) []) ((if {A = Batch} b (record { code = 0; card = cardOf c rs; answers = answersTo c rs }) (record { code = 12; card = c; answers = answers })) .card)
+    go true = requests-since h c g begin s ke requests (get-bytes requests (z .0)) 0 (length answers)
+    go false = refl
+
+pub calls-since : (h : Head) (c : List ℕ) (g : ℕ → ℕ → Option Entry) (begin s : ℕ) → Keeps h c g begin s → (acts : List Act) → AllSized acts
+    → Since c (accepted c acts) (cardAfter c acts)
 unfolding accepted cardAfter
 calls-since h c g begin s ke [] z = refl
-calls-since h c g begin s ke (k ∷ ks) z =
-    let d = called c k .card in
-    ⊎-elim
-    (λ (a : (taken c k ≡ []) × (d ≡ c)).
-    subst (λ es. Since c (es ++ accepted d ks) (cardAfter d ks)) (sym (a .0))
-    (subst (λ x. Since c (accepted x ks) (cardAfter x ks)) (sym (a .1)) (calls-since h c g begin s ke ks (z .1))))
-    (λ (a : (e : Entry) × Asks e × (plan c e ≡ accept d) × (taken c k ≡ e ∷ [])).
-    subst (λ es. Since c (es ++ accepted d ks) (cardAfter d ks)) (sym (a .3))
-    (d, a .1, a .2, calls-since h d (more g (a .0)) begin (a .0 .stamp) (keeps-step h c g begin s ke (a .0) (a .1) d (a .2)) ks (z .1)))
-    (call-step h c (ke .state .head) k (z .0))
+calls-since h c g begin s ke (a ∷ acts) z =
+    let es = takenBy c a in
+    let d = cardBy c a in
+    let one = act-since h c g begin s ke a (first a acts z) in
+    since-more c es d (accepted d acts) (cardAfter d acts) one
+    (calls-since h d (after g es) begin (lastStamp s es) (since-keeps h c g begin s ke es d one .0) acts (rest a acts z))

@@ -10,7 +10,6 @@ use native.Mathlib.Omega.{arith}
 use Rattle.rules.specs.declared.Entry.{Entry}
 use Rattle.rules.specs.declared.Head.{Head}
 use Rattle.rules.specs.Walk.{Visit, walk}
-use Rattle.rules.specs.Calls.{Call}
 use Rattle.rules.specs.Next.{next}
 use Rattle.rules.specs.Format.{meant}
 use Rattle.rules.specs.Look.{lookOn, lookIn, look}
@@ -22,7 +21,7 @@ use Rattle.tree.proofs.Keeps.{Keeps, keeps-next}
 use Rattle.tree.proofs.Hops.{given}
 use Rattle.tree.proofs.Tree.{some-inj}
 use Rattle.promises.specs.Promises.{LookTellsTheTruth, ReadsCountThePath, Smallest, NextTellsTheTruth}
-use Rattle.promises.specs.Calls.{Formatted, AllSized, cardAfter, Above, accepted}
+use Rattle.promises.specs.Calls.{Formatted, Act, AllSized, cardAfter, Above, accepted}
 use Rattle.promises.specs.Reading.{standsAsOf, lastStamp}
 use Rattle.promises.proofs.Numbers.{formatted-plan}
 use Rattle.promises.proofs.Reading.{after-plain}
@@ -36,7 +35,7 @@ formatted-keeps h card f =
     subst (λ z. Keeps z card (λ t. nothing) 0 0) (formatted-head h card f) (format-keeps (f .0) (f .1) (f .2) (f .3) (f .4) card (formatted-plan h card f))
 
 -- the card after the calls answers for the entries accepted
-pub calls-keep : (h : Head) (card : List ℕ) → Formatted h card → (calls : List Call) → AllSized calls
+pub calls-keep : (h : Head) (card : List ℕ) → Formatted h card → (calls : List Act) → AllSized calls
     → Keeps h (cardAfter card calls) (after (λ t. nothing) (accepted card calls)) 0 (lastStamp 0 (accepted card calls))
     × ((at : ℕ) → 0 < at → Above at (accepted card calls) → lastStamp 0 (accepted card calls) < at)
 calls-keep h card f calls s =
@@ -77,7 +76,7 @@ given-smallest g k r (inl f) = inl (λ b kb bh. f .1 b (omega arith) bh kb, ap g
 given-smallest g k r (inr f) = inr (f .0 .key, f .0, f .2, f .4, λ b kb be. f .5 b (omega arith) kb be, ap given (f .1))
 
 -- what next gives on the card after the calls, by the plain reading
-pub calls-next : (h : Head) (card : List ℕ) → Formatted h card → (calls : List Call) → AllSized calls → (k t : ℕ) → k < 4294967296
+pub calls-next : (h : Head) (card : List ℕ) → Formatted h card → (calls : List Act) → AllSized calls → (k t : ℕ) → k < 4294967296
     → (r : Option Entry) × (next (cardAfter card calls) k t ≡ given r) × Found (λ x. standsAsOf t x (accepted card calls)) k 0 4294967296 r
 calls-next h card f calls s k t lt =
     let es = accepted card calls in

@@ -1,14 +1,17 @@
--- What a list of calls leaves on a card, and the entries accepted on the way.
+-- What calls and batches, one after the other, leave on a card, and the entries accepted on the way.
 use mathlib.Core.Path.{_≡_}
 use Prim.Native.Nat.{ℕ, zero, suc, _+_, _-_, _<_}
 use mathlib.Core.List.{List, [], _∷_, _++_}
 use mathlib.Core.Option.{some}
 use Rattle.rules.specs.declared.Entry.{Entry}
 use Rattle.rules.specs.declared.Head.{Head}
-use Rattle.rules.specs.Sector.{postEntry, strikeEntry}
+use lib.ListN.{length, getD}
+use Rattle.rules.specs.Plain.{if}
+use Rattle.rules.specs.Sector.{encode, fields, postEntry, strikeEntry}
 use Rattle.rules.specs.Layout.{headOf}
 use Rattle.rules.specs.Walk.{Visit}
-use Rattle.rules.specs.Write.{topUsed, climb, rooted}
+use Rattle.rules.specs.Write.{planAnswer, planCard, topUsed, climb, rooted}
+use Rattle.rules.specs.Batch.{request, requestsIn, paired, batch}
 use Rattle.rules.specs.Calls.{Call, formatCall, postCall, strikeCall, lookCall, nextCall, called}
 
 -- a call is accepted where its answer is 0
@@ -29,14 +32,28 @@ Sized (strikeCall bib at) = (bib < 4294967296) × (at < 4294967296)
 Sized (lookCall bib t) = bib < 4294967296
 Sized (nextCall bib t) = bib < 4294967296
 
-abbrev pub AllSized : List Call → Type 0
-AllSized [] = Unit {0}
-AllSized (k ∷ ks) = Sized k × AllSized ks
+-- the elements of a card or a buffer are bytes
+abbrev pub OfBytes : List ℕ → Type 0
+OfBytes bytes = (i : ℕ) → getD bytes i 0 < 256
 
--- the card after the calls, refused ones and reads among them
-unfoldable pub cardAfter : List ℕ → List Call → List ℕ
+-- what is done to a card: a single call, or a batch of requests with the places lent for their answers
+pub data Act : Type 0 where
+  single : Call → Act
+  together : List ℕ → List ℕ → Act
+
+abbrev pub AllSized : List Act → Type 0
+AllSized [] = Unit {0}
+AllSized (single k ∷ acts) = Sized k × AllSized acts
+AllSized (together requests answers ∷ acts) = OfBytes requests × AllSized acts
+
+unfoldable pub cardBy : List ℕ → Act → List ℕ
+cardBy card (single k) = called card k .card
+cardBy card (together requests answers) = batch card requests answers .card
+
+-- the card after them, refused calls and reads among them
+unfoldable pub cardAfter : List ℕ → List Act → List ℕ
 cardAfter card [] = card
-cardAfter card (k ∷ ks) = cardAfter (called card k .card) ks
+cardAfter card (a ∷ acts) = cardAfter (cardBy card a) acts
 
 -- the entry that a call adds: a post's or a strike's, if its answer is 0
 unfoldable pub ifZero : ℕ → Entry → List Entry
@@ -50,10 +67,41 @@ taken card (strikeCall bib at) = ifZero (called card (strikeCall bib at) .answer
 taken card (lookCall bib t) = []
 taken card (nextCall bib t) = []
 
+-- the entries that requests add, one after the other: of each that is answered with 0
+unfoldable pub entered : List ℕ → List (List ℕ) → List Entry
+entered card [] = []
+entered card (r ∷ rs) = ifZero (planAnswer (request card r) .code) (fields r) ++ entered (planCard card (request card r)) rs
+
+unfoldable pub takenBy : List ℕ → Act → List Entry
+takenBy card (single k) = taken card k
+takenBy card (together requests answers) = if (paired requests answers) (entered card (requestsIn requests 0 (length answers))) []
+
 -- the accepted entries, in the order of their arrival
-unfoldable pub accepted : List ℕ → List Call → List Entry
+unfoldable pub accepted : List ℕ → List Act → List Entry
 accepted card [] = []
-accepted card (k ∷ ks) = taken card k ++ accepted (called card k .card) ks
+accepted card (a ∷ acts) = takenBy card a ++ accepted (cardBy card a) acts
+
+-- these bytes ask in a batch for these posts and strikes
+abbrev pub Asks : List Call → List ℕ → Type 0
+Asks [] bytes = bytes ≡ []
+Asks (formatCall n m td ti ∷ ks) bytes = ⊥
+Asks (postCall bib at time ∷ ks) bytes = (rest : List ℕ) × (bytes ≡ encode (postEntry bib at time) ++ rest) × Asks ks rest
+Asks (strikeCall bib at ∷ ks) bytes = (rest : List ℕ) × (bytes ≡ encode (strikeEntry bib at) ++ rest) × Asks ks rest
+Asks (lookCall bib t ∷ ks) bytes = ⊥
+Asks (nextCall bib t ∷ ks) bytes = ⊥
+
+abbrev pub EachSized : List Call → Type 0
+EachSized [] = Unit {0}
+EachSized (k ∷ ks) = Sized k × EachSized ks
+
+-- the card after single calls, and the numbers they answer
+unfoldable pub oneByOne : List ℕ → List Call → List ℕ
+oneByOne card [] = card
+oneByOne card (k ∷ ks) = oneByOne (called card k .card) ks
+
+unfoldable pub numbers : List ℕ → List Call → List ℕ
+numbers card [] = []
+numbers card (k ∷ ks) = called card k .answer .code ∷ numbers (called card k .card) ks
 
 -- the stamp is above that of every entry
 abbrev pub Above : ℕ → List Entry → Type 0

@@ -1,11 +1,11 @@
--- What the card promises, over any list of calls: the statements alone, in the rules' own words. Their proofs stand in proofs/.
+-- What the card promises, over any list of calls and batches: the statements alone, in the rules' own words. Their proofs stand in proofs/.
 use mathlib.Core.Path.{_≡_}
 use mathlib.Core.Logic.{_⊎_}
 use mathlib.Core.Bool.{false}
-use Prim.Native.Nat.{ℕ, _/_, _≤_, _<_}
-use mathlib.Core.List.{List, [], _∷_}
+use Prim.Native.Nat.{ℕ, _*_, _/_, _≤_, _<_}
+use mathlib.Core.List.{List, [], _∷_, _++_}
 use mathlib.Core.Option.{Option, none, some}
-use lib.ListN.{length, getD, replicate}
+use lib.ListN.{length, replicate}
 use denote.Ref.{RefT}
 use Rattle.rules.specs.declared.Entry.{Entry}
 use Rattle.rules.specs.declared.Head.{Head}
@@ -21,26 +21,27 @@ use Rattle.rules.specs.Next.{next}
 use Rattle.rules.specs.Write.{latest, topUsed}
 use Rattle.rules.specs.State.{stateOf, state}
 use Rattle.rules.specs.Panel.{panel}
+use Rattle.rules.specs.Batch.{Batch, batch}
 use Rattle.rules.specs.Calls.{Call, postCall, strikeCall, lookCall, nextCall, Done, called}
 use Rattle.writer.specs.Rows.{puts}
 use Rattle.scroll.specs.declared.Tally.{Tally}
 use Rattle.scroll.specs.declared.Scroll.{Scroll}
 use Rattle.scroll.specs.Records.{recordsOf, tallyOf}
 use Rattle.scroll.specs.Scroll.{after, stepOf}
-use Rattle.promises.specs.Calls.{Accepted, Formatted, Sized, AllSized, cardAfter, accepted, Above, needed, remaining}
+use Rattle.promises.specs.Calls.{Accepted, Formatted, Sized, OfBytes, Act, AllSized, EachSized, cardBy, cardAfter, accepted, Asks, oneByOne, numbers, Above, needed, remaining}
 use Rattle.promises.specs.Reading.{upTo, standsAsOf, lastStamp}
 
 -- 1. A look answers 0, the bib, and the stamp and time of the last accepted entry for it stamped t or earlier if that is a post,
 -- else stamp 0 and time 0. It never answers damage.
 abbrev pub LookTellsTheTruth : Type 0
 LookTellsTheTruth =
-    (h : Head) (card : List ℕ) → Formatted h card → (calls : List Call) → AllSized calls → (bib t : ℕ) → 1 ≤ bib → bib < 4294967296
+    (h : Head) (card : List ℕ) → Formatted h card → (calls : List Act) → AllSized calls → (bib t : ℕ) → 1 ≤ bib → bib < 4294967296
     → look (cardAfter card calls) bib t ≡ sheet bib (look (cardAfter card calls) bib t .reads) (standsAsOf t bib (accepted card calls))
 
 -- Its reads are the buckets on the path of the walk.
 abbrev pub ReadsCountThePath : Type 0
 ReadsCountThePath =
-    (h : Head) (card : List ℕ) → Formatted h card → (calls : List Call) → AllSized calls → (bib t : ℕ) → 1 ≤ bib → bib < 4294967296
+    (h : Head) (card : List ℕ) → Formatted h card → (calls : List Act) → AllSized calls → (bib t : ℕ) → 1 ≤ bib → bib < 4294967296
     → (p : List Visit) × (walk h (cardAfter card calls) t bib ≡ some p) × (look (cardAfter card calls) bib t .reads ≡ length p)
 
 -- an answer to next: the end where nothing stands above k, else the smallest bib that does, with its stamp and time
@@ -53,7 +54,7 @@ Smallest stands k a =
 -- 2. A next answers the smallest bib above k that stands as of t by the same reading as a look's; the end exactly when none does.
 abbrev pub NextTellsTheTruth : Type 0
 NextTellsTheTruth =
-    (h : Head) (card : List ℕ) → Formatted h card → (calls : List Call) → AllSized calls → (k t : ℕ) → k < 4294967296
+    (h : Head) (card : List ℕ) → Formatted h card → (calls : List Act) → AllSized calls → (k t : ℕ) → k < 4294967296
     → Smallest (λ bib. standsAsOf t bib (accepted card calls)) k (next (cardAfter card calls) k t)
 
 -- 3. Two cards with the same four numbers in the head whose accepted entries stamped up to t agree
@@ -61,15 +62,11 @@ NextTellsTheTruth =
 abbrev pub CardsAnswerAlike : Type 0
 CardsAnswerAlike =
     (h : Head) (card other : List ℕ) → Formatted h card → Formatted h other
-    → (calls others : List Call) → AllSized calls → AllSized others
+    → (calls others : List Act) → AllSized calls → AllSized others
     → (t : ℕ) → upTo t (accepted card calls) ≡ upTo t (accepted other others)
     → (bib : ℕ) → bib < 4294967296
     → (look (cardAfter card calls) bib t ≡ look (cardAfter other others) bib t)
     × (next (cardAfter card calls) bib t ≡ next (cardAfter other others) bib t)
-
--- the elements of a card are bytes
-abbrev pub OfBytes : List ℕ → Type 0
-OfBytes card = (i : ℕ) → getD card i 0 < 256
 
 -- the sectors are all different
 abbrev pub NoneOf : ℕ → List ℕ → Type 0
@@ -87,14 +84,14 @@ WrittenAt card [] new = card ≡ new
 WrittenAt card (i ∷ is) new =
     (bytes : List ℕ) × (sectorAt card i ≡ replicate 16 0) × (length bytes ≡ 16) × (zeros bytes ≡ false) × WrittenAt (put card i bytes) is new
 
--- 4. Nothing is overwritten, by any call on any card of bytes, foreign ones too: the length stays, a sector that is not blank stays,
--- and each write goes to sixteen zero bytes, no two of a call to the same sector.
+-- 4. Nothing is overwritten, by any call or batch on any card of bytes, foreign ones too: the length stays, a sector that is not blank
+-- stays, and each write goes to sixteen zero bytes, no two of a call or a batch to the same sector.
 abbrev pub NothingIsOverwritten : Type 0
 NothingIsOverwritten =
-    (card : List ℕ) → OfBytes card → (k : Call) → Sized k
-    → (length (called card k .card) ≡ length card)
-    × ((j : ℕ) → zeros (sectorAt card j) ≡ false → sectorAt (called card k .card) j ≡ sectorAt card j)
-    × ((is : List ℕ) × AllDifferent is × WrittenAt card is (called card k .card))
+    (card : List ℕ) → OfBytes card → (a : Act) → AllSized (a ∷ [])
+    → (length (cardBy card a) ≡ length card)
+    × ((j : ℕ) → zeros (sectorAt card j) ≡ false → sectorAt (cardBy card a) j ≡ sectorAt card j)
+    × ((is : List ℕ) × AllDifferent is × WrittenAt card is (cardBy card a))
 
 -- a call that writes e is accepted where the fresh buckets needed remain, and else refused with 6
 abbrev pub TakenUnlessFull : Head → List ℕ → Entry → Call → Type 0
@@ -107,14 +104,14 @@ TakenUnlessFull h card e k =
 -- unless too few fresh buckets are left; the log has always room.
 abbrev pub PostIsTaken : Type 0
 PostIsTaken =
-    (h : Head) (card : List ℕ) → Formatted h card → (calls : List Call) → AllSized calls
+    (h : Head) (card : List ℕ) → Formatted h card → (calls : List Act) → AllSized calls
     → (bib at time : ℕ) → 1 ≤ bib → 1 ≤ at → Sized (postCall bib at time) → Above at (accepted card calls)
     → TakenUnlessFull h (cardAfter card calls) (postEntry bib at time) (postCall bib at time)
 
 -- A strike likewise, where something stands; where nothing does it is refused with 5.
 abbrev pub StrikeIsTaken : Type 0
 StrikeIsTaken =
-    (h : Head) (card : List ℕ) → Formatted h card → (calls : List Call) → AllSized calls
+    (h : Head) (card : List ℕ) → Formatted h card → (calls : List Act) → AllSized calls
     → (bib at : ℕ) → 1 ≤ bib → 1 ≤ at → Sized (strikeCall bib at) → Above at (accepted card calls)
     → ((standsAsOf latest bib (accepted card calls) ≡ none) × (called (cardAfter card calls) (strikeCall bib at) .answer .code ≡ 5))
     ⊎ ((standsAsOf latest bib (accepted card calls) ≡ none → ⊥)
@@ -174,7 +171,7 @@ ScrollSaysAgain = (s : Scroll) → stepOf s .bib ≡ 0 → stepOf (after s (step
 -- and the highest bucket used.
 abbrev pub StateTellsTheTruth : Type 0
 StateTellsTheTruth =
-    (h : Head) (card : List ℕ) → Formatted h card → (calls : List Call) → AllSized calls
+    (h : Head) (card : List ℕ) → Formatted h card → (calls : List Act) → AllSized calls
     → state (cardAfter card calls) ≡ stateOf h (lastStamp 0 (accepted card calls)) (topUsed h (cardAfter card calls) (h .n))
 
 -- What a state tells decides: a stamp is refused with 3 exactly where it is not above the last.
@@ -186,6 +183,39 @@ StateTellsTheNext =
 
 abbrev pub StateIsSettled : Type 0
 StateIsSettled = (card : List ℕ) (one two : State) → one ≡ state card → two ≡ state card → one ≡ two
+
+-- 11. A batch leaves the card that the same posts and strikes one by one leave, and answers what they answer, on every card.
+abbrev pub BatchIsOneByOne : Type 0
+BatchIsOneByOne =
+    (card : List ℕ) (ks : List Call) → EachSized ks → (requests : List ℕ) → Asks ks requests → (answers : List ℕ) → length answers ≡ length ks
+    → batch card requests answers ≡ record { code = 0; card = oneByOne card ks; answers = numbers card ks }
+
+-- Cut in two between any two requests, as two batches one after the other, it gives the same card and the same answers.
+abbrev pub BatchCutInTwo : Type 0
+BatchCutInTwo =
+    (card requests answers more places : List ℕ) → length requests ≡ 16 * length answers → length more ≡ 16 * length places
+    → let one = batch card requests answers in
+    let two = batch (one .card) more places in
+    batch card (requests ++ more) (answers ++ places) ≡ record { code = 0; card = two .card; answers = one .answers ++ two .answers }
+
+-- A request that is refused changes no byte of the card and does not stop the batch: what follows it goes on as without it.
+abbrev pub RefusedDoesNotStop : Type 0
+RefusedDoesNotStop =
+    (card request : List ℕ) → length request ≡ 16 → (place number : ℕ) → batch card request (place ∷ []) .answers ≡ number ∷ [] → (number ≡ 0 → ⊥)
+    → (more places : List ℕ) → length more ≡ 16 * length places
+    → let on = batch card more places in
+    batch card (request ++ more) (place ∷ places) ≡ record { code = 0; card = on .card; answers = number ∷ on .answers }
+
+-- an outcome of a batch: its number, and the bytes of the card and of the answers afterwards
+abbrev pub FitsBatch : List ℕ → List ℕ → List ℕ → Batch → Type 0
+FitsBatch card requests answers b =
+    let said = batch card requests answers in (b .code ≡ said .code) × (b .card ≡ said .card) × (b .answers ≡ said .answers)
+
+-- What is said of a batch settles all three; and a batch that is refused leaves every lent byte as it was.
+abbrev pub BatchIsSettled : Type 0
+BatchIsSettled =
+    (card requests answers : List ℕ) (one two : Batch) → FitsBatch card requests answers one → FitsBatch card requests answers two
+    → (one ≡ two) × ((one .code ≡ 0 → ⊥) → (one .code ≡ 12) × (one .card ≡ card) × (one .answers ≡ answers))
 
 -- All that is promised. `promised` in src/ asks for a term of it, so that a promise without its proof fails the check.
 pub record Promises : Type 0 where
@@ -206,3 +236,7 @@ pub record Promises : Type 0 where
   pub state-tells-the-truth : StateTellsTheTruth
   pub state-tells-the-next : StateTellsTheNext
   pub state-is-settled : StateIsSettled
+  pub batch-is-one-by-one : BatchIsOneByOne
+  pub batch-cut-in-two : BatchCutInTwo
+  pub refused-does-not-stop : RefusedDoesNotStop
+  pub batch-is-settled : BatchIsSettled
