@@ -1,5 +1,6 @@
 -- A request's turn: refused, it leaves card and numbers; accepted, it leaves those of the new card.
 use mathlib.Core.Path.{_≡_, refl, ap, sym, _∙_}
+use mathlib.Core.Logic.{⊎-elim}
 use mathlib.Core.Bool.{Bool, true, false, not}
 use mathlib.Core.Option.{Option, none, some}
 use mathlib.Core.List.{List, [], _∷_, _++_, append-nil}
@@ -15,16 +16,17 @@ use Rattle.rules.specs.Answers.{refused}
 use Rattle.rules.specs.Layout.{headOf}
 use Rattle.rules.specs.Plain.{zeros}
 use Rattle.rules.specs.Sector.{sectorAt, fields, isPost}
-use Rattle.rules.specs.Write.{Plan, refuse, accept, refuseIf, planAnswer, planCard, plan}
+use Rattle.rules.specs.Write.{Plan, refuse, accept, refuseIf, planAnswer, planCard, plan, stampOn}
 use Rattle.rules.specs.Batch.{Batch, wellAsked, request, requestFor, requestsIn, cardOf, answersTo, paired, batch}
-use Rattle.laws.proofs.Tools.{and-true}
+use Rattle.laws.proofs.Tools.{and-true, bool-cases}
 use Rattle.laws.proofs.Bytes.{Bytes}
 use Rattle.laws.proofs.Entries.{Asks}
 use Rattle.laws.proofs.Carries.{stamp-after, head-after}
 use Rattle.laws.proofs.Numbers.{Numbered, plan-numbered, plan-small}
-use Rattle.laws.proofs.Requests.{no-card}
+use Rattle.laws.proofs.Plans.{no-accept}
+use Rattle.laws.proofs.Requests.{well-asks, no-card, ill-asked, asked}
 use Rattle.write.specs.declared.Entered.{Entered}
-use Rattle.write.specs.Plans.{Did}
+use Rattle.write.specs.Plans.{Did, Began}
 use Rattle.batch.specs.declared.Known.{Known}
 use Rattle.batch.specs.Carry.{Knows, Took}
 
@@ -129,18 +131,57 @@ answers-none card requests i (suc c) q =
     ap (λ (p : Plan). planAnswer p .code ∷ answersTo (planCard card p) (requestsIn requests (suc i) c)) (no-card card (sectorAt requests i) q)
     ∙ ap (λ (l : List ℕ). 1 ∷ l) (answers-none card requests (suc i) c q)
 
--- every answer is a byte
-pub request-small : (card r : List ℕ) → planAnswer (request card r) .code < 256
-unfolding request requestFor planAnswer refused refuseIf
-request-small card r = go (headOf card)
+-- a request is refused with 1 or 11, or planned as its entry is
+by-request : (Q : Plan → Type 0) (card r : List ℕ) → Q (refuse 1) → Q (refuse 11) → Q (plan card (fields r)) → Q (request card r)
+unfolding request requestFor refuseIf
+by-request Q card r one eleven p = go (headOf card)
   where
-    by-well : (b : Bool) → planAnswer (refuseIf (not b) 11 (plan card (fields r))) .code < 256
-    by-well true = plan-small card (fields r)
-    by-well false = omega arith
+    by-well : (b : Bool) → Q (refuseIf (not b) 11 (plan card (fields r)))
+    by-well true = p
+    by-well false = eleven
 
-    go : (o : Option Head) → planAnswer (requestFor card r o) .code < 256
-    go none = omega arith
+    go : (o : Option Head) → Q (requestFor card r o)
+    go none = one
     go (some h) = by-well (wellAsked r)
+
+-- so that every answer is a byte, and 0 is acceptance
+pub request-small : (card r : List ℕ) → planAnswer (request card r) .code < 256
+unfolding planAnswer refused
+request-small card r = by-request (λ (p : Plan). planAnswer p .code < 256) card r (omega arith) (omega arith) (plan-small card (fields r))
+
+request-numbered : (card r : List ℕ) → Numbered (request card r)
+request-numbered card r = by-request Numbered card r (λ z. omega arith) (λ z. omega arith) (plan-numbered card (fields r))
+
+-- one that is accepted was asked well
+accepted-well : (card r : List ℕ) (h : Head) → headOf card ≡ some h → (new : List ℕ) → request card r ≡ accept new → wellAsked r ≡ true
+accepted-well card r h hq new q =
+    ⊎-elim (λ (w : wellAsked r ≡ true). w) (λ (w : wellAsked r ≡ false). absurd (no-accept 11 new (sym (ill-asked card r h hq w) ∙ q))) (bool-cases (wellAsked r))
+
+-- after the first request
+module _ (h : Head) (card : List ℕ) (hq : headOf card ≡ some h) (by : Bytes card) (s : List ℕ) (bs : Bytes s) (r : Entered) (after : List ℕ) (b : Began r h card after (request card s)) where
+  begun : (p : Plan) → request card s ≡ p → Numbered p → after ≡ planCard card p → r .code ≡ planAnswer p .code
+      → (headOf after ≡ some h) × (r .code ≡ 0 → stampOn h after ≡ fields s .stamp)
+  unfolding planCard planAnswer refused
+  begun (refuse c) q n is code = (rw is hq, λ z. absurd (n (sym code ∙ z)))
+  begun (accept new) q n is code =
+      let w = accepted-well card s h hq new q in
+      let asks = well-asks s bs w in
+      let p = sym (asked card s h hq w) ∙ q in
+      (rw is (head-after h card hq by (fields s) asks new p), λ z. rw is (stamp-after h card hq by (fields s) asks new p))
+
+  both : (headOf after ≡ some h) × (r .code ≡ 0 → stampOn h after ≡ fields s .stamp)
+  both = begun (request card s) refl (request-numbered card s) (b .bytes) (b .code)
+
+  pub first-head : headOf after ≡ some h
+  first-head = both .0
+
+  pub first-knows : (at : ℕ) → at ≡ fields s .stamp → r .code ≡ 0 → Knows h after (record { stamp = at; used = r .used; root = r .root })
+  first-knows at is z = let d = b .did z in record { stamp = is ∙ sym (both .1 z); used = d .used; root = d .root }
+
+-- no request, and one
+pub none-asked : (l : List ℕ) → length l ≡ 0 → l ≡ []
+none-asked [] q = refl
+none-asked (x ∷ l) q = absurd (omega arith)
 
 -- the batch, by the two lengths
 module _ (card requests answers : List ℕ) where

@@ -3,18 +3,21 @@
 use rules::Entry;
 use rules::Head;
 use walk::Layout;
+use write::Entered;
 use write::Task;
 ghost use mathlib.Core.Path.{_≡_};
 ghost use mathlib.Core.Option.{some};
-ghost use Prim.Native.Nat.{_+_, _*_, _/_, _%_, _≤_};
+ghost use Prim.Native.Nat.{_+_, _-_, _*_, _/_, _%_, _≤_};
 ghost use lib.Dec.{eqb};
-ghost use lib.ListN.{length, replicate};
+ghost use mathlib.Core.List.{_++_};
+ghost use lib.ListN.{length, take, replicate};
 ghost use Rattle.rules.specs.Plain.{_&_};
 ghost use Rattle.rules.specs.Sector.{sectorAt};
 ghost use Rattle.rules.specs.Layout.{headOf};
 ghost use Rattle.rules.specs.Write.{plan};
 ghost use Rattle.rules.specs.Batch.{wellAsked, request, requestsIn, cardOf, answersTo, batch};
 ghost use Rattle.laws.proofs.Entries.{Asks};
+ghost use Rattle.write.specs.Plans.{Began};
 ghost use Rattle.batch.specs.Carry.{Knows, Took};
 
 // What the next request starts from: the card's largest stamp, its highest bucket used, and its root.
@@ -95,20 +98,76 @@ fn answer_to(card: &mut [u8], head: Head, requests: &[u8], i: usize, known: Know
     Carried { code: 11, known }
 }
 
-// All requests, one after the other; none of them stops the batch.
+// The first request asks of the card's stamps only whether its own comes too late, as a single call does.
+fn begin(card: &mut [u8], head: Head, requests: &[u8]) -> Entered
+    requires { ⌜ (headOf (now card) ≡ some head) × (16 ≤ length (now requests)) ⌝ }
+    ensures { λ r. ⌜ Began r head (now (card .entry)) (now (card .exit)) (request (now (card .entry)) (sectorAt (now (requests .entry)) 0)) ⌝ }
+{
+    if well_asked(requests, 0) {
+        let e = sector::fields_at(requests, 0);
+        return write::enter_on(card, head, e);
+    }
+    Entered {
+        code: 11,
+        used: 0,
+        root: 0,
+    }
+}
+
+// What is known after the first request, stamped `at`: what it told, or where it was refused what the card says, looked through once.
+fn known_after(card: &[u8], head: Head, first: Entered, at: u32) -> Known
+    requires { ⌜ (headOf (now card) ≡ some head) × (first .code ≡ 0 → Knows head (now card) (record { stamp = at; used = first .used; root = first .root })) ⌝ }
+    ensures { λ r. ⌜ Knows head (now (card .entry)) r ⌝ }
+{
+    if first.code == 0 {
+        return Known {
+            stamp: at,
+            used: first.used,
+            root: first.root,
+        };
+    }
+    let area = survey::survey(card, head);
+    Known {
+        stamp: area.stamp,
+        used: area.used,
+        root: trail::root_of(card, head),
+    }
+}
+
+// The requests behind the first, one after the other; none of them stops the batch.
 fn load(card: &mut [u8], head: Head, requests: &[u8], answers: &mut [u8], first: Known)
-    requires { ⌜ (headOf (now card) ≡ some head) × Knows head (now card) first × (length (now requests) ≡ 16 * length (now answers)) ⌝ }
-    ensures { λ _. ⌜ now (card .exit) ≡ cardOf (now (card .entry)) (requestsIn (now (requests .entry)) 0 (length (now (answers .entry)))) ⌝ }
-    ensures { λ _. ⌜ now (answers .exit) ≡ answersTo (now (card .entry)) (requestsIn (now (requests .entry)) 0 (length (now (answers .entry)))) ⌝ }
+    requires { ⌜ (headOf (now card) ≡ some head) × Knows head (now card) first × (length (now requests) ≡ 16 * length (now answers)) × (1 ≤ length (now answers)) ⌝ }
+    ensures { λ _. ⌜ now (card .exit) ≡ cardOf (now (card .entry)) (requestsIn (now (requests .entry)) 1 (length (now (answers .entry)) - 1)) ⌝ }
+    ensures { λ _. ⌜ now (answers .exit) ≡ take 1 (now (answers .entry)) ++ answersTo (now (card .entry)) (requestsIn (now (requests .entry)) 1 (length (now (answers .entry)) - 1)) ⌝ }
 {
     let mut known = first;
-    let mut i = 0;
+    let mut i = 1;
     while i < answers.len() {
         let c = answer_to(card, head, requests, i, known);
         answers[i] = c.code as u8;
         known = c.known;
         i += 1;
     }
+}
+
+// All requests. The first is answered by itself, so that a batch of one costs what its call does.
+fn answer_all(card: &mut [u8], head: Head, requests: &[u8], answers: &mut [u8])
+    requires { ⌜ (headOf (now card) ≡ some head) × (length (now requests) ≡ 16 * length (now answers)) ⌝ }
+    ensures { λ _. ⌜ now (card .exit) ≡ cardOf (now (card .entry)) (requestsIn (now (requests .entry)) 0 (length (now (answers .entry)))) ⌝ }
+    ensures { λ _. ⌜ now (answers .exit) ≡ answersTo (now (card .entry)) (requestsIn (now (requests .entry)) 0 (length (now (answers .entry)))) ⌝ }
+{
+    let count = answers.len();
+    if count == 0 {
+        return;
+    }
+    let first = begin(card, head, requests);
+    answers[0] = first.code as u8;
+    if count == 1 {
+        return;
+    }
+    let e = sector::fields_at(requests, 0);
+    let known = known_after(card, head, first, e.stamp);
+    load(card, head, requests, answers, known);
 }
 
 // On what is no card of the layout every request is answered with 1.
@@ -144,13 +203,7 @@ pub fn batch(card: &mut [u8], requests: &[u8], answers: &mut [u8]) -> u32
             refuse_all(answers);
             return 0;
         };
-        let area = survey::survey(card, head);
-        let known = Known {
-            stamp: area.stamp,
-            used: area.used,
-            root: trail::root_of(card, head),
-        };
-        load(card, head, requests, answers, known);
+        answer_all(card, head, requests, answers);
         return 0;
     }
     12

@@ -77,7 +77,7 @@ fn sent_up(h: Hand, limit: usize, fresh: usize, stamp: u32) -> Renewed
     Renewed { sent, fresh: next }
 }
 
-// What a rewrite of bucket b would hand on.
+// What a rewrite of bucket b would hand on. The hand has no name here, so that it is not copied: this is in a frame that stays.
 fn renewal(
     card: &[u8],
     head: Head,
@@ -91,9 +91,8 @@ fn renewal(
     requires { ⌜ AllSmall (sentList p) × (fresh ≤ 20000) ⌝ }
     ensures { λ r. ⌜ HandsOn stamp (limitOn head (now (card .entry)) b) fresh (keptOn head stamp (now (card .entry)) b (sentList p)) r ⌝ }
 {
-    let h = kept_in(card, head, b, used, p, stamp);
     let limit = limit_in(card, head, b, used);
-    sent_up(h, limit, fresh, stamp)
+    sent_up(kept_in(card, head, b, used, p, stamp), limit, fresh, stamp)
 }
 
 // Above the root: two pairs want a bucket more, and any pair is a new root.

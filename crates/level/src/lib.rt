@@ -74,9 +74,7 @@ pub fn regrouped(part: &[u8], used: usize, p: Sent, stamp: u32) -> Hand
 {
     let got = hand::gathered(part, used);
     let header = key_at(got, 0);
-    let all = with_sent(got, p);
-    let sorted = hand::in_order(all);
-    hand::thinned(sorted, header, stamp)
+    hand::thinned(hand::in_order(with_sent(got, p)), header, stamp)
 }
 
 // The fewest entries that make two buckets: TI for an index bucket, TD for a data bucket.

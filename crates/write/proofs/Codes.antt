@@ -24,7 +24,7 @@ use Rattle.scan.proofs.Picks.{hit}
 use Rattle.trail.proofs.Tracks.{trackIn}
 use Rattle.climb.specs.Levels.{upward}
 use Rattle.write.specs.declared.Entered.{Entered}
-use Rattle.write.specs.Plans.{codeOf, pathOr, walked, Came, Did, Tried}
+use Rattle.write.specs.Plans.{codeOf, pathOr, walked, Came, Did, Tried, Began}
 
 -- a number refuses, 0 goes on
 abbrev coded : ℕ → Plan → Plan
@@ -130,6 +130,19 @@ module _ (h : Head) (card : List ℕ) (p : Plan) where
 
   pub tried-short : (places : ℕ) (r : Entered) → places < h .n → Tried (record { deep = true; entered = r }) places h card card p
   tried-short places r less = record { did = λ no. absurd (false-true (sym no)); same = λ yes. refl; few = λ yes. less }
+
+-- an entry was refused before the card was looked through, or went in
+pub began-not : (h : Head) (card : List ℕ) (p : Plan) (c : ℕ) (r : Entered) → r ≡ record { code = suc c; used = 0; root = 0 } → p ≡ refuse (suc c) → Began r h card card p
+unfolding planAnswer planCard refused
+began-not h card p c r is q =
+    rw is (record { code = sym (ap (λ (y : Plan). planAnswer y .code) q); bytes = sym (ap (planCard card) q); did = λ (z : suc c ≡ 0). absurd (omega arith) })
+
+pub began : (r : Entered) (h : Head) (card after : List ℕ) (p : Plan) → Did r h card after p → Began r h card after p
+began r h card after p d = record { code = d .code; bytes = d .bytes; did = λ z. d }
+
+pub began-same : (r : Entered) (h : Head) (card after : List ℕ) (p q : Plan) → p ≡ q → Began r h card after q → Began r h card after p
+began-same r h card after p q e b =
+    record { code = b .code ∙ sym (ap (λ (y : Plan). planAnswer y .code) e); bytes = b .bytes ∙ sym (ap (planCard card) e); did = λ z. did-same r h card after p q e (b .did z) }
 
 -- the answer is the number with zeros beside it
 pub answer-by : (p : Plan) (c : ℕ) → c ≡ planAnswer p .code → refused c ≡ planAnswer p

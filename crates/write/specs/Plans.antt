@@ -47,6 +47,12 @@ pub record Did (r : Entered) (h : Head) (card after : List ℕ) (p : Plan) : Typ
   pub used : r .used ≡ topUsed h after (h .n)
   pub root : r .root ≡ rootNow h after
 
+-- the plan was followed, and where it was accepted the two numbers are told
+pub record Began (r : Entered) (h : Head) (card after : List ℕ) (p : Plan) : Type 0 where
+  pub code : r .code ≡ planAnswer p .code
+  pub bytes : after ≡ planCard card p
+  pub did : r .code ≡ 0 → Did r h card after p
+
 -- a path of so many places was tried: the plan was followed, or the card is as it was
 pub record Tried (r : Outcome) (places : ℕ) (h : Head) (card after : List ℕ) (p : Plan) : Type 0 where
   pub did : r .deep ≡ false → Did (r .entered) h card after p

@@ -14,13 +14,14 @@ ghost use lib.Dec.{ltb, eqb};
 ghost use lib.ListN.{length, drop};
 ghost use Rattle.rules.specs.declared.Entry.{Entry};
 ghost use Rattle.rules.specs.Plain.{if, _&_, _or_};
+ghost use Rattle.rules.specs.Layout.{headOf};
 ghost use Rattle.rules.specs.Bucket.{log, logBlanks};
 ghost use Rattle.rules.specs.Walk.{walk};
 ghost use Rattle.rules.specs.Write.{planAnswer, planCard, planOn, planAt, plan, post, strike};
 ghost use Rattle.laws.proofs.Entries.{Asks};
 ghost use Rattle.bucket.specs.Shapes.{Shape};
 ghost use Rattle.climb.specs.Levels.{upward};
-ghost use Rattle.write.specs.Plans.{codeOf, walked, Came, Begins, Did, Tried};
+ghost use Rattle.write.specs.Plans.{codeOf, walked, Came, Begins, Did, Tried, Began};
 
 // Whether the log has no blank sector.
 fn log_full(card: &[u8], head: Head) -> bool
@@ -210,6 +211,38 @@ pub fn insert(card: &mut [u8], head: Head, task: Task) -> Entered
     o.entered
 }
 
+// A refusal that comes before the card is looked through: of the two numbers nothing is known.
+fn early(code: u32) -> Entered
+    ensures { λ r. ⌜ r ≡ record { code = code; used = 0; root = 0 } ⌝ }
+{
+    Entered {
+        code,
+        used: 0,
+        root: 0,
+    }
+}
+
+// An entry on a card whose head was read. Of the card's stamps it is asked only whether the entry's own comes too late.
+pub fn enter_on(card: &mut [u8], head: Head, e: Entry) -> Entered
+    requires { ⌜ (headOf (now card) ≡ some head) × Asks e ⌝ }
+    ensures { λ r. ⌜ Began r head (now (card .entry)) (now (card .exit)) (plan (now (card .entry)) e) ⌝ }
+{
+    if e.key == 0 {
+        return early(2);
+    }
+    let area = survey::survey_for(card, head, e.stamp);
+    if area.late {
+        return early(3);
+    }
+    let task = Task {
+        entry: e,
+        used: area.used,
+        root: trail::root_of(card, head),
+        deep: false,
+    };
+    insert(card, head, task)
+}
+
 fn enter(card: &mut [u8], e: Entry) -> Answer
     requires { ⌜ Asks e ⌝ }
     ensures { λ r. ⌜ r ≡ planAnswer (plan (now (card .entry)) e) ⌝ }
@@ -219,20 +252,7 @@ fn enter(card: &mut [u8], e: Entry) -> Answer
     let Layout::Sound(head) = layout else {
         return walk::refusal(1);
     };
-    if e.key == 0 {
-        return walk::refusal(2);
-    }
-    let area = survey::survey_for(card, head, e.stamp);
-    if area.late {
-        return walk::refusal(3);
-    }
-    let task = Task {
-        entry: e,
-        used: area.used,
-        root: trail::root_of(card, head),
-        deep: false,
-    };
-    let entered = insert(card, head, task);
+    let entered = enter_on(card, head, e);
     walk::refusal(entered.code)
 }
 

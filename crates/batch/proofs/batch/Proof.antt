@@ -2,12 +2,10 @@
 use borrow.Author.Needs.{needs}
 use mathlib.Core.Path.{_≡_, sym, ap, _∙_}
 use mathlib.Core.Option.{some}
-use mathlib.Core.Bool.{true}
 use lib.ListN.{length}
 use denote.Ref.{now}
 use Rattle.rules.specs.Layout.{headOf}
 use Rattle.rules.specs.Batch.{Batch, paired}
-use Rattle.bucket.proofs.Room.{shape-of}
 use Rattle.walk.proofs.Walks.{broken-none, sound-some}
 use Rattle.batch.proofs.Carries.{unpaired, one-by-one, whole, card-none, answers-none}
 use Rattle.batch.proofs.batch.Statement.{statement}
@@ -37,30 +35,20 @@ returns c =
       ),
     )
 
-survey-requires : tie.Need-survey-requires
-survey-requires c κs = shape-of _ _ (head-met (c .before .before))
-
-root-of-requires : tie.Need-root-of-requires
-root-of-requires c κs = shape-of _ _ (head-met (c .before .before .before .before))
-
-load-requires : tie.Need-load-requires
-load-requires c κs =
-    let at-root = c .before .before in
-    let at-survey = at-root .before .before in
-    let at-layout = at-survey .before .before .before in
+answer-all-requires : tie.Need-answer-all-requires
+answer-all-requires c κs =
+    let at-layout = c .before .before .before in
     let at-if1 = at-layout .before .before .before .before in
     let a = at-if1 .before .before .before .before .before .args in
-    let s = at-survey .survey .ensures in
-    (head-met at-layout, record { stamp = s .0; used = s .1; root = at-root .root-of .ensures }, whole (a .card .now) (now (a .requests)) (a .answers .now) (sym (pairs (at-if1 .before)) ∙ at-if1 .if1 .taken))
+    (head-met at-layout, whole (a .card .now) (now (a .requests)) (a .answers .now) (sym (pairs (at-if1 .before)) ∙ at-if1 .if1 .taken))
 
 returns-2 : tie.Need-returns-2
 returns-2 c =
-    let at-load = c .before .before .before .before in
-    let at-layout = at-load .before .before .before .before .before .before .before .before in
-    let at-if1 = at-layout .before .before .before .before in
+    let at-all = c .before .before .before .before in
+    let at-if1 = at-all .before .before .before .before .before .before .before .before in
     let a = at-if1 .before .before .before .before .before .args in
     let is = one-by-one (a .card .now) (now (a .requests)) (a .answers .now) (sym (pairs (at-if1 .before)) ∙ at-if1 .if1 .taken) in
-    let l = at-load .load .ensures in
+    let l = at-all .answer-all .ensures in
     (sym (ap (λ (b : Batch). b .code) is), (l .0 ∙ sym (ap (λ (b : Batch). b .card) is), l .1 ∙ sym (ap (λ (b : Batch). b .answers) is)))
 
 returns-3 : tie.Need-returns-3
@@ -73,5 +61,5 @@ pub batch-spec : {M : Type 1} → statement M
 batch-spec =
     tie.close
     (tie.spec (λ c κs. search needs) (λ c κs. search needs) (λ c. search needs) (λ c. search needs) (λ c κs. search needs)
-    (λ c. search needs) (λ c. search needs) returns survey-requires root-of-requires load-requires (λ c. search needs)
-    (λ c. search needs) returns-2 returns-3)
+    (λ c. search needs) (λ c. search needs) returns answer-all-requires (λ c. search needs) (λ c. search needs) returns-2
+    returns-3)

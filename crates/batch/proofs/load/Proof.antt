@@ -1,10 +1,9 @@
 -- `batch::load` answers the requests one after the other. What is left of them, on the card as it is, gives what the whole gives.
 use borrow.Author.Needs.{needs}
-use mathlib.Core.Path.{_≡_, ap, sym, _∙_}
+use mathlib.Core.Path.{_≡_, refl, ap, sym, _∙_}
 use mathlib.Core.Option.{some}
 use mathlib.Core.List.{List, _++_}
 use Prim.Native.Nat.{ℕ, _-_, _≤_, _<_}
-use native.Mathlib.Nat.{sub-zero}
 use native.Mathlib.Omega.{arith}
 use lib.ListN.{length, take, length-set}
 use denote.Ref.{now}
@@ -19,21 +18,21 @@ use Rattle.batch.proofs.load.Tie as tie
 
 abbrev Inv-loop : tie.InvT-loop
 Inv-loop card₀ head requests answers₀ known₀ i₀ card answers known i =
-    (i ≤ length answers₀) × (length answers ≡ length answers₀) × (length card ≡ length card₀) × (headOf card ≡ some head) × Knows head card known
-    × (cardOf card (requestsIn requests i (length answers₀ - i)) ≡ cardOf card₀ (requestsIn requests 0 (length answers₀)))
-    × (take i answers ++ answersTo card (requestsIn requests i (length answers₀ - i)) ≡ answersTo card₀ (requestsIn requests 0 (length answers₀)))
+    (1 ≤ i) × (i ≤ length answers₀) × (length answers ≡ length answers₀) × (length card ≡ length card₀) × (headOf card ≡ some head) × Knows head card known
+    × (cardOf card (requestsIn requests i (length answers₀ - i)) ≡ cardOf card₀ (requestsIn requests 1 (length answers₀ - 1)))
+    × (take i answers ++ answersTo card (requestsIn requests i (length answers₀ - i)) ≡ take 1 answers₀ ++ answersTo card₀ (requestsIn requests 1 (length answers₀ - 1)))
 
 abbrev μ-loop : tie.MeasureT-loop
 μ-loop card₀ head requests answers₀ known₀ i₀ card answers known i = length answers₀ - i
 
 loop-holds : tie.Need-loop-holds Inv-loop μ-loop
-loop-holds c = let o = c .before .before .before in (search needs, search needs, search needs, o .pre .0, o .pre .1, rw sub-zero, rw sub-zero)
+loop-holds c = let o = c .before .before .before in (search needs, omega (arith, o .pre .3), search needs, search needs, o .pre .0, o .pre .1, refl, refl)
 
 answer-to-requires : tie.Need-answer-to-requires Inv-loop μ-loop
 answer-to-requires c κs =
     let l = c .before .before .loop in
     let o = c .before .before .before .before .before .before in
-    (l .inv .3, l .inv .4, omega (arith, o .pre .2, l .inv .0, l .inv .1, c .before .loop-test .taken))
+    (l .inv .4, l .inv .5, omega (arith, o .pre .2, l .inv .1, l .inv .2, c .before .loop-test .taken))
 
 cast-answers : tie.Need-cast-answers Inv-loop μ-loop
 cast-answers c =
@@ -51,15 +50,16 @@ loop-again c =
     let n = length (o .args .answers .now) in
     let requests = now (o .args .requests) in
     let t = at-answer .answer-to .ensures in
-    let lt : l .i < n = omega (arith, at-test .loop-test .taken, l .inv .1) in (
+    let lt : l .i < n = omega (arith, at-test .loop-test .taken, l .inv .2) in (
       search needs,
-      simp length-set (l .inv .1),
+      search needs,
+      simp length-set (l .inv .2),
       search needs,
       t .head,
       t .knows,
-      rw (t .bytes) (sym (card-turn requests (l .i) n lt (l .card)) ∙ l .inv .5),
+      rw (t .bytes) (sym (card-turn requests (l .i) n lt (l .card)) ∙ l .inv .6),
       rw (t .bytes, t .code) (answered (l .answers) (l .i) (planAnswer (request (l .card) (sectorAt requests (l .i))) .code) _ _ (at-test .loop-test .taken)
-          (sym (ap (λ (x : List ℕ). take (l .i) (l .answers) ++ x) (answers-turn requests (l .i) n lt (l .card))) ∙ l .inv .6)),
+          (sym (ap (λ (x : List ℕ). take (l .i) (l .answers) ++ x) (answers-turn requests (l .i) n lt (l .card))) ∙ l .inv .7)),
     )
 
 returns : tie.Need-returns Inv-loop μ-loop
@@ -69,9 +69,9 @@ returns c =
     let o = c .before .before .before .before .before in
     let n = length (o .args .answers .now) in
     let requests = now (o .args .requests) in
-    let at-end : l .i ≡ n = omega (arith, c .loop-test .left, l .inv .0, l .inv .1) in
+    let at-end : l .i ≡ n = omega (arith, c .loop-test .left, l .inv .1, l .inv .2) in
     let none = none-left requests (l .i) n at-end in
-    (rw none at (l .inv .5), all-answered (l .answers) (l .i) _ (omega (arith, c .loop-test .left)) (rw none at (l .inv .6)))
+    (rw none at (l .inv .6), all-answered (l .answers) (l .i) _ (omega (arith, c .loop-test .left)) (rw none at (l .inv .7)))
 
 pub load-spec : {M : Type 1} → statement M
 load-spec =
