@@ -15,12 +15,14 @@ use Rattle.rules.specs.Sector.{sectorAt, put, decode}
 use Rattle.rules.specs.Layout.{headOf, base}
 use Rattle.rules.specs.Write.{topUsed}
 use Rattle.rules.specs.State.{state}
+use Rattle.rules.specs.Batch.{batch}
 use Rattle.rules.specs.Panel.{panel}
 use Rattle.rules.specs.Calls.{Call}
 use Rattle.rules.specs.Bench.{benchCall}
 
 -- no card any more; a call and its answer; other bytes in a sector; a call and its answer on the card with other bytes in a sector;
--- a bucket and its m sectors; the log's first sectors; a sector's bytes; the highest bucket written; the state's eight numbers; a time, a field, the number and places it gives
+-- a bucket and its m sectors; the log's first sectors; a sector's bytes; the highest bucket written; the state's eight numbers; a batch's requests
+-- and places, its number and answers; a time, a field, the number and places it gives
 pub data Line : Type 0 where
   anew : Line
   says : Call → Answer → Line
@@ -31,6 +33,7 @@ pub data Line : Type 0 where
   bytes : ℕ → List ℕ → Line
   used : ℕ → Line
   tells : List ℕ → Line
+  loads : List ℕ → List ℕ → ℕ → List ℕ → Line
   shows : ℕ → ℕ → ℕ → List ℕ → Line
 
 unfoldable pub same : List ℕ → List ℕ → Bool
@@ -88,6 +91,7 @@ right card (logs ss) = logsIn card (headOf card) ss
 right card (bytes i bs) = same (sectorAt card i) bs
 right card (used k) = usedIn card (headOf card) k
 right card (tells ns) = same (numbersOf (state card)) ns
+right card (loads requests places c answers) = let b = batch card requests places in eqb (b .code) c & same (b .answers) answers
 right card (shows time field c ps) = sameDigits (panel time field) c ps
 
 unfoldable pub cardNext : List ℕ → Line → List ℕ
@@ -100,6 +104,7 @@ cardNext card (logs ss) = card
 cardNext card (bytes i bs) = card
 cardNext card (used k) = card
 cardNext card (tells ns) = card
+cardNext card (loads requests places c answers) = batch card requests places .card
 cardNext card (shows time field c ps) = card
 
 unfoldable pub passes : List ℕ → List Line → Bool

@@ -9,7 +9,7 @@ use Rattle.rules.specs.declared.Sector.the-variants.{Blank, Held}
 use Rattle.rules.specs.Sector.{postEntry, strikeEntry, indexEntry, rootEntry}
 use Rattle.rules.specs.Answers.{answer, refused}
 use Rattle.rules.specs.Calls.{Call, formatCall, postCall, strikeCall, lookCall, nextCall}
-use Rattle.rules.proofs.Lines.{Line, anew, says, writes, spoilt, holds, logs, bytes, used, tells, shows, passes}
+use Rattle.rules.proofs.Lines.{Line, anew, says, writes, spoilt, holds, logs, bytes, used, tells, loads, shows, passes}
 
 abbrev ok : Call → Line
 ok k = says k (answer 0 0 0 0 0)
@@ -212,6 +212,28 @@ passedOver =
     ∷ used 7
     ∷ []
 
+-- a batch: 12 ahead of 1, 1, 11 ahead of 2, then as post and strike answer; no refusal stops it, and no stamp of one counts
+abbrev rows : List (List ℕ) → List ℕ
+rows [] = []
+rows (r ∷ rs) = r ++ rows rs
+
+abbrev batches : List Line
+batches =
+    anew
+    ∷ loads (raw 1 0 1 1 1) [] 12 []
+    ∷ loads (0 ∷ []) (9 ∷ []) 12 (9 ∷ [])
+    ∷ loads (raw 1 0 1 1 1) (9 ∷ []) 0 (1 ∷ [])
+    ∷ loads [] [] 0 []
+    ∷ ok (formatCall 2 4 3 4)
+    ∷ loads
+    (rows (raw 3 0 0 1 1 ∷ raw 0 0 1 1 1 ∷ raw 1 7 0 1 1 ∷ raw 2 0 0 1 1 ∷ raw 1 0 0 1 1 ∷ raw 1 0 1 0 1 ∷ raw 2 0 1 1 0 ∷ []))
+    (9 ∷ 9 ∷ 9 ∷ 9 ∷ 9 ∷ 9 ∷ 9 ∷ []) 0 (11 ∷ 11 ∷ 11 ∷ 11 ∷ 2 ∷ 3 ∷ 5 ∷ [])
+    ∷ loads
+    (rows (raw 1 0 1 5 7 ∷ raw 2 0 9 7 0 ∷ raw 2 0 1 6 0 ∷ raw 1 0 2 6 7 ∷ raw 1 0 3 8 8 ∷ raw 1 0 4 9 9 ∷ []))
+    (9 ∷ 9 ∷ 9 ∷ 9 ∷ 9 ∷ 9 ∷ []) 0 (0 ∷ 5 ∷ 0 ∷ 3 ∷ 0 ∷ 6 ∷ [])
+    ∷ holds 2 (Held (strikeEntry 0 0) ∷ Held (postEntry 1 5 7) ∷ Held (strikeEntry 1 6) ∷ Held (postEntry 3 8 8) ∷ [])
+    ∷ []
+
 -- "field not 4, 5 or 6 digits, or time too long": a lap of 1:12.40 is not 12.40; and no thousandth is lost
 abbrev nothing : List ℕ
 nothing = 0 ∷ 0 ∷ 0 ∷ 0 ∷ 0 ∷ 0 ∷ []
@@ -230,7 +252,7 @@ fields =
     ∷ []
 
 abbrev pub pins : List Line
-pins = defaults ++ (limits ++ (two ++ (damage ++ (rewritten ++ (passedOver ++ fields)))))
+pins = defaults ++ (limits ++ (two ++ (damage ++ (rewritten ++ (passedOver ++ (batches ++ fields))))))
 
 pub pins-pass : T (passes [] pins)
 unfolding rules

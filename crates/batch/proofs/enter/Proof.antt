@@ -64,7 +64,7 @@ returns-3 c =
     let o = s .before in
     let a = o .args in
     let by = get-bytes (a .card .now) (λ i. omega (arith, s .slice-known .given i)) in
-    laid (a .head) (a .card .now) (o .pre .0) by (a .e) (o .pre .1) (a .known) (o .pre .2) _ _ (did q) (c .if3 .taken)
+    laid (a .head) (a .card .now) (o .pre .0) by (a .e) (o .pre .1) (a .known) (o .pre .2) _ _ (did q) (omega (arith, c .if3 .taken))
 
 returns-4 : tie.Need-returns-4
 returns-4 c =
