@@ -161,7 +161,8 @@ fn answer_all(card: &mut [u8], head: Head, requests: &[u8], answers: &mut [u8])
         return;
     }
     let first = begin(card, head, requests);
-    answers[0] = first.code as u8;
+    let code = first.code;
+    answers[0] = code as u8;
     if count == 1 {
         return;
     }

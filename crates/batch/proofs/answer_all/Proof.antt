@@ -30,7 +30,7 @@ begin-requires c κs =
 
 cast-answers : tie.Need-cast-answers
 cast-answers c =
-    let q = c .before .before .before in
+    let q = c .before .before in
     let a = q .before .before .before .before .before .before .args in
     omega (arith, q .begin .ensures .code, request-small (a .card .now) (sectorAt (now (a .requests)) 0))
 
@@ -51,7 +51,7 @@ module _ (requests card answers : List ℕ) (lt : 0 < length answers) (rest : Li
 returns-2 : tie.Need-returns-2
 unfolding cardOf answersTo requestsIn
 returns-2 c =
-    let q = c .before .before .before .before in
+    let q = c .before .before .before in
     let o = q .before .before .before .before .before .before in
     let a = o .args in
     let b = q .begin .ensures in
@@ -65,7 +65,7 @@ returns-2 c =
 
 known-after-requires : tie.Need-known-after-requires
 known-after-requires c κs =
-    let q = c .before .before .before .before .before .before in
+    let q = c .before .before .before .before .before in
     let s = q .before .before .before .before in
     let o = s .before .before in
     let a = o .args in
@@ -77,7 +77,7 @@ known-after-requires c κs =
 load-requires : tie.Need-load-requires
 load-requires c κs =
     let at-known = c .before .before in
-    let q = at-known .before .before .before .before .before .before .before in
+    let q = at-known .before .before .before .before .before .before in
     let s = q .before .before .before .before in
     let o = s .before .before in
     let a = o .args in
@@ -92,7 +92,7 @@ same-length-4 c = let at-load = c .before .before .before .before in simp length
 returns-3 : tie.Need-returns-3
 returns-3 c =
     let at-load = c .before .before .before .before in
-    let q = at-load .before .before .before .before .before .before .before .before .before .before in
+    let q = at-load .before .before .before .before .before .before .before .before .before in
     let o = q .before .before .before .before .before .before in
     let a = o .args in
     let b = q .begin .ensures in
