@@ -24,7 +24,8 @@ use Rattle.scan.proofs.Picks.{hit}
 use Rattle.trail.proofs.Tracks.{trackIn}
 use Rattle.climb.specs.Levels.{upward}
 use Rattle.write.specs.declared.Entered.{Entered}
-use Rattle.write.specs.Plans.{codeOf, pathOr, walked, Came, Did, Tried, Began}
+use Rattle.write.specs.declared.Verdict.{Verdict}
+use Rattle.write.specs.Plans.{codeOf, pathOr, walked, Came, Ready, Judged, Did, Tried, Began}
 
 -- a number refuses, 0 goes on
 abbrev coded : ℕ → Plan → Plan
@@ -106,6 +107,18 @@ module _ (card : List ℕ) (e : Entry) where
 pub came-path : (h : Head) (card : List ℕ) (x : ℕ) → Came h card x → trackIn x [] (walk h card latest x) .path ≡ upward (walked h card x) []
 unfolding trackIn
 came-path h card x q = ap (λ (o : Option (List Visit)). trackIn x [] o .path) q
+
+-- a verdict: too deep a walk, a refusal, or nothing against it
+module _ (v : Verdict) (places : ℕ) (h : Head) (card : List ℕ) (e : Entry) (path : List ℕ) where
+  pub judged-deep : v .deep ≡ true → places < h .n → Judged v places h card e path
+  judged-deep d less = record { few = λ yes. less; no = λ z n. absurd (false-true (sym z ∙ d)); yes = λ z n. absurd (false-true (sym z ∙ d)) }
+
+  pub judged-no : (c : ℕ) → v .deep ≡ false → v .code ≡ c → (c ≡ 0 → ⊥) → planAt h card e (walk h card latest (e .key)) ≡ refuse c → Judged v places h card e path
+  judged-no c d is ne q =
+      record { few = λ yes. absurd (false-true (sym d ∙ yes)); no = λ z n. q ∙ ap refuse (sym is); yes = λ z n. absurd (ne (sym is ∙ n)) }
+
+  pub judged-yes : v .deep ≡ false → v .code ≡ 0 → Ready h card e path (v .start) (v .needs) → Judged v places h card e path
+  judged-yes d z r = record { few = λ yes. absurd (false-true (sym d ∙ yes)); no = λ y n. absurd (n z); yes = λ y n. r }
 
 -- a plan was followed, by another name of it
 pub did-same : (r : Entered) (h : Head) (card after : List ℕ) (p q : Plan) → p ≡ q → Did r h card after q → Did r h card after p

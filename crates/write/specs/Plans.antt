@@ -1,19 +1,25 @@
 -- What a walk's end has against an entry, the path of a walk that came to data, and what a path that was tried gives.
-use Prim.Native.Nat.{ℕ, _<_}
+use Prim.Native.Nat.{ℕ, _+_, _≤_, _<_}
 use mathlib.Core.Bool.{true, false}
 use mathlib.Core.Path.{_≡_}
-use mathlib.Core.List.{List, []}
+use mathlib.Core.List.{List, [], _∷_}
 use mathlib.Core.Option.{Option, none, some}
-use lib.Dec.{eqb}
+use lib.Dec.{eqb, ltb}
+use lib.ListN.{length, drop}
 use Rattle.rules.specs.declared.Head.{Head}
-use Rattle.rules.specs.Plain.{if}
+use Rattle.rules.specs.declared.Entry.{Entry}
+use Rattle.rules.specs.Plain.{if, _&_, _or_}
 use Rattle.rules.specs.Walk.{Visit, walk}
 use Rattle.rules.specs.Layout.{headOf}
-use Rattle.rules.specs.Write.{Plan, planAnswer, planCard, latest, topUsed}
+use Rattle.rules.specs.Bucket.{logBlanks}
+use Rattle.rules.specs.Write.{Plan, refuse, planAnswer, planCard, planOn, planAt, latest, topUsed}
 use Rattle.laws.proofs.Entries.{Fine}
 use Rattle.laws.proofs.Roots.{rootNow}
 use Rattle.scan.specs.declared.Found.{Found}
+use Rattle.climb.specs.declared.Needs.{Needs}
+use Rattle.climb.specs.Levels.{upward, needsOf, countOn, tally}
 use Rattle.write.specs.declared.Task.{Task}
+use Rattle.write.specs.declared.Verdict.{Verdict}
 use Rattle.write.specs.declared.Entered.{Entered}
 use Rattle.write.specs.declared.Outcome.{Outcome}
 use Rattle.scan.specs.declared.Found.the-variants.{Damage, Nothing, Hit}
@@ -39,6 +45,22 @@ pub record Begins (h : Head) (card : List ℕ) (task : Task) : Type 0 where
   pub fine : Fine (h .n) (task .entry)
   pub used : task .used ≡ topUsed h card (h .n)
   pub root : task .root ≡ rootNow h card
+
+-- a write that nothing refuses: the walk came to data, its path lies in the lent one from the start on, and there is room for what
+-- was counted
+pub record Ready (h : Head) (card : List ℕ) (e : Entry) (path : List ℕ) (start : ℕ) (needs : Needs) : Type 0 where
+  pub came : Came h card (e .key)
+  pub goes-on : planAt h card e (walk h card latest (e .key)) ≡ planOn h card e (walked h card (e .key))
+  pub levels : drop start path ≡ upward (walked h card (e .key)) []
+  pub most : start ≤ length path
+  pub counted : needs ≡ needsOf (countOn h (e .stamp) card (upward (walked h card (e .key)) []) (tally (e ∷ []) (topUsed h card (h .n) + 1)))
+  pub room : (ltb (h .n + 1) (needs .fresh) or (needs .root & eqb (length (logBlanks h card)) 0)) ≡ false
+
+-- what a verdict says, of a path of so many places
+pub record Judged (v : Verdict) (places : ℕ) (h : Head) (card : List ℕ) (e : Entry) (path : List ℕ) : Type 0 where
+  pub few : v .deep ≡ true → places < h .n
+  pub no : v .deep ≡ false → (v .code ≡ 0 → ⊥) → planAt h card e (walk h card latest (e .key)) ≡ refuse (v .code)
+  pub yes : v .deep ≡ false → v .code ≡ 0 → Ready h card e path (v .start) (v .needs)
 
 -- the plan was followed: its number, the card, and the two numbers of that card
 pub record Did (r : Entered) (h : Head) (card after : List ℕ) (p : Plan) : Type 0 where

@@ -8,20 +8,21 @@ use scan::Found;
 use walk::Layout;
 ghost use mathlib.Core.Path.{_≡_};
 ghost use mathlib.Core.Option.{some};
-ghost use mathlib.Core.List.{List, []};
-ghost use Prim.Native.Nat.{_+_, _-_, _≤_};
+ghost use mathlib.Core.Bool.{false};
+ghost use mathlib.Core.List.{List, [], _∷_};
+ghost use Prim.Native.Nat.{ℕ, _+_, _-_, _≤_};
 ghost use lib.Dec.{ltb, eqb};
-ghost use lib.ListN.{length, drop};
+ghost use lib.ListN.{length};
 ghost use Rattle.rules.specs.declared.Entry.{Entry};
 ghost use Rattle.rules.specs.Plain.{if, _&_, _or_};
 ghost use Rattle.rules.specs.Layout.{headOf};
 ghost use Rattle.rules.specs.Bucket.{log, logBlanks};
 ghost use Rattle.rules.specs.Walk.{walk};
-ghost use Rattle.rules.specs.Write.{planAnswer, planCard, planOn, planAt, plan, post, strike};
+ghost use Rattle.rules.specs.Write.{planAnswer, planCard, planAt, plan, post, strike};
 ghost use Rattle.laws.proofs.Entries.{Asks};
 ghost use Rattle.bucket.specs.Shapes.{Shape};
-ghost use Rattle.climb.specs.Levels.{upward};
-ghost use Rattle.write.specs.Plans.{codeOf, walked, Came, Begins, Did, Tried, Began};
+ghost use Rattle.level.specs.Level.{sentList};
+ghost use Rattle.write.specs.Plans.{codeOf, Begins, Judged, Did, Tried, Began};
 
 // Whether the log has no blank sector.
 fn log_full(card: &[u8], head: Head) -> bool
@@ -74,35 +75,14 @@ fn root_after(needs: Needs, root: u32) -> u32
     root
 }
 
-// The entry goes in along the path that the walk met: all that can refuse is known before the first byte is written.
-fn lay(card: &mut [u8], head: Head, task: Task, path: &[u32], start: usize) -> Entered
-    requires { ⌜ Begins head (now card) task × Came head (now card) (task .entry .key) ⌝ }
-    requires { ⌜ (drop start (now path) ≡ upward (walked head (now card) (task .entry .key)) []) × (start ≤ length (now path)) × (length (now path) ≤ 4096) ⌝ }
-    ensures { λ r. ⌜ Did r head (now (card .entry)) (now (card .exit)) (planOn head (now (card .entry)) (task .entry) (walked head (now (card .entry)) (task .entry .key))) ⌝ }
+// The entry alone, as it is sent to its data bucket.
+fn sent_first(e: Entry) -> Sent
+    ensures { λ r. ⌜ sentList r ≡ e ∷ [] ⌝ }
 {
-    let e = task.entry;
-    let used = task.used;
-    let root = task.root;
-    let stamp = e.stamp;
-    let fresh = used + 1;
-    let sent = Sent {
+    Sent {
         low: e,
         high: e,
         two: false,
-    };
-    let needs = climb::count(card, head, path, start, sent, fresh, stamp);
-    if too_full(card, head, needs) {
-        return Entered {
-            code: 6,
-            used,
-            root,
-        };
-    }
-    rise::rise(card, path, start, sent, fresh, head, stamp);
-    Entered {
-        code: 0,
-        used: needs.fresh - 1,
-        root: root_after(needs, root),
     }
 }
 
@@ -130,44 +110,91 @@ fn objection(kind: u32, found: Found) -> u32
     }
 }
 
+// What is known of a write before its first byte: that the walk has more buckets than the lent path has places; or the number of
+// what refuses it; or, where that is 0, where its path starts and what it will need.
+pub struct Verdict {
+    pub deep: bool,
+    pub code: u32,
+    pub start: usize,
+    pub needs: Needs,
+}
+
+fn refused(code: u32, deep: bool) -> Verdict
+    ensures { λ r. ⌜ (r .code ≡ code) × (r .deep ≡ deep) ⌝ }
+{
+    let needs = Needs {
+        fresh: 0,
+        root: false,
+    };
+    Verdict {
+        deep,
+        code,
+        start: 0,
+        needs,
+    }
+}
+
+// All that can refuse is known here, before the first byte is written: the walk, its end, the buckets and the log's room.
+fn judge(card: &[u8], head: Head, task: Task, path: &mut [u32]) -> Verdict
+    requires { ⌜ Begins head (now card) task × (length (now path) ≤ 4096) ⌝ }
+    ensures { λ r. ⌜ Judged r (length (now (path .entry))) head (now (card .entry)) (task .entry) (now (path .exit)) ⌝ }
+{
+    let e = task.entry;
+    let t = trail::walk_down(card, head, task.root, e.key, path);
+    if t.deep {
+        return refused(4, true);
+    }
+    let found = t.found;
+    let code = objection(e.kind, found);
+    if code != 0 {
+        return refused(code, false);
+    }
+    let start = t.start;
+    let needs = climb::count(
+        card,
+        head,
+        path,
+        start,
+        sent_first(e),
+        task.used + 1,
+        e.stamp,
+    );
+    if too_full(card, head, needs) {
+        return refused(6, false);
+    }
+    Verdict {
+        deep: false,
+        code: 0,
+        start,
+        needs,
+    }
+}
+
+// The entry goes in along the path that was judged, or is refused.
+fn lay(card: &mut [u8], head: Head, task: Task, path: &[u32], v: Verdict) -> Entered
+    requires { ⌜ Begins head (now card) task × (v .deep ≡ false) × ((places : ℕ) × Judged v places head (now card) (task .entry) (now path)) ⌝ }
+    ensures { λ r. ⌜ Did r head (now (card .entry)) (now (card .exit)) (planAt head (now (card .entry)) (task .entry) (walk head (now (card .entry)) 4294967295 (task .entry .key))) ⌝ }
+{
+    let e = task.entry;
+    let used = task.used;
+    let root = task.root;
+    let code = v.code;
+    if code != 0 {
+        return Entered { code, used, root };
+    }
+    let needs = v.needs;
+    rise::rise(card, path, v.start, sent_first(e), used + 1, head, e.stamp);
+    Entered {
+        code: 0,
+        used: needs.fresh - 1,
+        root: root_after(needs, root),
+    }
+}
+
 // What came of a lent path: what the write gives, or that the walk has more buckets than the path has places.
 pub struct Outcome {
     pub deep: bool,
     pub entered: Entered,
-}
-
-// The entry in its bucket, or what refuses it from the walk on, where the path that was lent has places enough.
-fn along(card: &mut [u8], head: Head, task: Task, path: &mut [u32]) -> Outcome
-    requires { ⌜ Begins head (now card) task × (length (now path) ≤ 4096) ⌝ }
-    ensures { λ r. ⌜ Tried r (length (now (path .entry))) head (now (card .entry)) (now (card .exit)) (planAt head (now (card .entry)) (task .entry) (walk head (now (card .entry)) 4294967295 (task .entry .key))) ⌝ }
-{
-    let used = task.used;
-    let root = task.root;
-    let t = trail::walk_down(card, head, root, task.entry.key, path);
-    if t.deep {
-        return Outcome {
-            deep: true,
-            entered: Entered {
-                code: 4,
-                used,
-                root,
-            },
-        };
-    }
-    let start = t.start;
-    let found = t.found;
-    let code = objection(task.entry.kind, found);
-    if code != 0 {
-        return Outcome {
-            deep: false,
-            entered: Entered { code, used, root },
-        };
-    }
-    let entered = lay(card, head, task, path, start);
-    Outcome {
-        deep: false,
-        entered,
-    }
 }
 
 fn on_short_path(card: &mut [u8], head: Head, task: Task) -> Outcome
@@ -175,7 +202,18 @@ fn on_short_path(card: &mut [u8], head: Head, task: Task) -> Outcome
     ensures { λ r. ⌜ Tried r 16 head (now (card .entry)) (now (card .exit)) (planAt head (now (card .entry)) (task .entry) (walk head (now (card .entry)) 4294967295 (task .entry .key))) ⌝ }
 {
     let mut path = [0u32; 16];
-    along(card, head, task, &mut path)
+    let v = judge(card, head, task, &mut path);
+    if v.deep {
+        return Outcome {
+            deep: true,
+            entered: early(4),
+        };
+    }
+    let entered = lay(card, head, task, &path, v);
+    Outcome {
+        deep: false,
+        entered,
+    }
 }
 
 // No walk has more than 4,096 buckets.
@@ -184,8 +222,8 @@ fn on_long_path(card: &mut [u8], head: Head, task: Task) -> Entered
     ensures { λ r. ⌜ Did r head (now (card .entry)) (now (card .exit)) (planAt head (now (card .entry)) (task .entry) (walk head (now (card .entry)) 4294967295 (task .entry .key))) ⌝ }
 {
     let mut path = [0u32; 4096];
-    let o = along(card, head, task, &mut path);
-    o.entered
+    let v = judge(card, head, task, &mut path);
+    lay(card, head, task, &path, v)
 }
 
 // The entry in its bucket, or what refuses it from the walk on. A short path is tried first, since a card of ours is a few
