@@ -1,8 +1,8 @@
 /* A day's meeting on a card that lies in a file: `meeting FILE`.
  *
  * The first run makes the file and records the morning; a later run opens it again, asks the card for
- * its last stamp and goes on above it. The file is mapped into memory, so the card's bytes are lent to
- * the calls as they are.
+ * its last stamp and goes on above it, call by call and then with a heat's sheet in one call. The file
+ * is mapped into memory, so the card's bytes are lent to the calls as they are.
  */
 #define _POSIX_C_SOURCE 200809L
 
@@ -15,7 +15,7 @@
 #include <sys/stat.h>
 #include <unistd.h>
 
-enum { BUCKETS = 16, SECTORS = 4, PAGE = 3 };
+enum { BUCKETS = 16, SECTORS = 4, PAGE = 3, LINES = 6 };
 
 struct file {
     uint8_t *card;
@@ -141,6 +141,43 @@ static void pages(struct file file, uint32_t at) {
     } while (tally.count == PAGE);
 }
 
+/* A line of a heat's sheet. */
+struct line {
+    uint8_t kind; /* an enum card_kind */
+    uint32_t bib;
+    uint32_t at;
+    uint32_t time;
+};
+
+static void put_number(uint8_t *bytes, uint32_t number) {
+    int i;
+    for (i = 0; i < 4; i++)
+        bytes[i] = (uint8_t)(number >> 8 * i & 0xff);
+}
+
+/* The line as a request of card_batch. */
+static void put_request(uint8_t *request, struct line line) {
+    request[0] = line.kind;
+    request[1] = request[2] = request[3] = 0;
+    put_number(request + 4, line.bib);
+    put_number(request + 8, line.at);
+    put_number(request + 12, line.time);
+}
+
+/* A whole sheet in one call. Each line has its own answer, and a refused one does not stop the others. */
+static void heat(struct file file, const struct line *lines) {
+    uint8_t requests[LINES * CARD_SECTOR_BYTES], answers[LINES];
+    uint32_t code;
+    int i;
+    for (i = 0; i < LINES; i++)
+        put_request(requests + CARD_SECTOR_BYTES * i, lines[i]);
+    code = card_batch(file.card, file.len, requests, sizeof requests, answers, sizeof answers);
+    printf("heat of %d lines: %s\n", LINES, card_text(code));
+    for (i = 0; i < LINES && code == CARD_OK; i++)
+        printf("heat: kind %u, bib %u at %u: %s\n", lines[i].kind, lines[i].bib, lines[i].at,
+               card_text(answers[i]));
+}
+
 static void morning(struct file file) {
     struct card_answer answer = card_format(file.card, file.len, BUCKETS, SECTORS, 0, 0);
     printf("new card of %zu bytes: %s\n", file.len, card_text(answer.code));
@@ -162,6 +199,21 @@ static void morning(struct file file) {
     panel(60000, 6);
 }
 
+/* The last heat, its clock from `at` on. */
+static void evening(struct file file, uint32_t at) {
+    const struct line lines[LINES] = {
+        {CARD_KIND_POST, 21, at, 57300},
+        {CARD_KIND_POST, 22, at + 1, 57900},
+        {CARD_KIND_POST, 0, at + 2, 58000},    /* the scanner read no bib */
+        {CARD_KIND_STRIKE, 22, at + 2, 57900}, /* a strike has no time */
+        {CARD_KIND_POST, 23, at + 1, 58400},   /* the clock ran backwards */
+        {CARD_KIND_STRIKE, 22, at + 2, 0},
+    };
+    heat(file, lines);
+    list(file, CARD_NOW);
+    state(file);
+}
+
 static void afternoon(struct file file) {
     struct card_state found = state(file);
     uint32_t last = found.last;
@@ -174,6 +226,7 @@ static void afternoon(struct file file) {
     look(file, 8, last);
     list(file, CARD_NOW);
     state(file);
+    evening(file, last + 2);
 }
 
 int main(int argc, char **argv) {

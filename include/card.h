@@ -15,12 +15,13 @@
  * const).
  *
  * A refusal has its number in `code` and zeros beside it, and the card is unchanged. Where several
- * numbers could be given, the first in the order listed at the call is. Accepted is code 0.
+ * numbers could be given, the first in the order listed at the call is. Accepted is code 0. The
+ * requests of card_batch are answered and refused likewise, each by itself.
  *
  * Threads. Any number of threads may ask (card_look, card_next, card_records, card_state) at the
  * same time.
- * card_format, card_post and card_strike need the card alone: no other call on it may run
- * meanwhile, and the caller sees to that. Different cards have nothing to do with each other.
+ * card_format, card_post, card_strike and card_batch need the card alone: no other call on it may
+ * run meanwhile, and the caller sees to that. Different cards have nothing to do with each other.
  *
  * Stack. On a card that these calls have made, each call takes at most CARD_STACK_OURS bytes of
  * stack, and on any bytes at all at most CARD_STACK_ANY: a card of another's making may have paths
@@ -31,17 +32,18 @@
  *
  * Blank is 0x00. A memory that erases to 0xFF has to be lent inverted, each byte as its complement.
  *
- * Power lost inside card_format, card_post or card_strike is not provided for. The card may then be
- * damaged, or lack the call's entry, and where a full bucket was being divided, records of it may
- * be missing as of the call's stamp and later. What there is nevertheless: no byte written before
- * the call is touched; sectors are written one at a time, those of fresh buckets first, then the
- * entries that lead to them, the lower level before the upper, and an entry of the root log last of
- * all; and the sixteen bytes of a sector are stored one after the other, the kind first. So until
- * the first entry that leads to a fresh bucket is there, every question is answered as before the
- * call. What the call has written stays: its fresh buckets count as used, and its stamp as given.
- * That is the order in the source; compiler, cache and memory keep it only where they are made
- * to. A caller who needs more makes the call on a copy and brings the changed sectors over in that
- * order.
+ * Power lost inside card_format, card_post, card_strike or card_batch is not provided for. The card
+ * may then be damaged, or lack the call's entry, and where a full bucket was being divided, records
+ * of it may be missing as of the call's stamp and later. What there is nevertheless: no byte
+ * written before the call is touched; sectors are written one at a time, those of fresh buckets
+ * first, then the entries that lead to them, the lower level before the upper, and an entry of the
+ * root log last of all; and the sixteen bytes of a sector are stored one after the other, the kind
+ * first. So until the first entry that leads to a fresh bucket is there, every question is answered
+ * as before the call. What the call has written stays: its fresh buckets count as used, and its
+ * stamp as given. In card_batch all this holds of the request at hand; what the ones before it have
+ * written is whole. That is the order in the source; compiler, cache and memory keep it only where
+ * they are made to. A caller who needs more makes the call on a copy and brings the changed sectors
+ * over in that order.
  *
  * The last stamp. A post or strike needs a stamp above every stamp on the card, so one stamped
  * 4294967295 closes the card: it can be asked, but no more be written. card_state tells the largest
@@ -76,7 +78,7 @@ extern "C" {
 #define CARD_TD_MIN 2
 #define CARD_TI_MIN 4
 
-/* The bytes of a sector, and of a record that card_records lays down. */
+/* The bytes of a sector, of a record that card_records lays down and of a request of card_batch. */
 #define CARD_SECTOR_BYTES 16
 
 /* The length of a card of `buckets` buckets of `sectors` sectors, for numbers within the limits. */
@@ -101,7 +103,15 @@ enum card_code {
     CARD_FULL = 6,           /* more fresh buckets needed than remain, or no blank in the root log */
     CARD_PANEL = 7,          /* no such field, or the time is too long for it */
     CARD_SHAPE = 8,          /* a limit of the shape broken, or the length not the shape's */
-    CARD_NOT_BLANK = 9       /* a byte of the card to be formatted is nonzero */
+    CARD_NOT_BLANK = 9,      /* a byte of the card to be formatted is nonzero */
+    CARD_NO_REQUEST = 11,    /* a request of a batch is not laid out as a post or a strike */
+    CARD_UNPAIRED = 12       /* a batch's requests are not whole, or not as many as its answers */
+};
+
+/* What a request of card_batch asks for: its byte 0. */
+enum card_kind {
+    CARD_KIND_POST = 1,
+    CARD_KIND_STRIKE = 2
 };
 
 /* What an answer number means, in words. */
@@ -127,6 +137,10 @@ static inline const char *card_text(uint32_t code) {
         return "the shape breaks a limit or is not of the card's length";
     case CARD_NOT_BLANK:
         return "the card is not blank";
+    case CARD_NO_REQUEST:
+        return "the request is not laid out as a post or a strike";
+    case CARD_UNPAIRED:
+        return "the requests are not whole or not as many as the answers";
     default:
         return "no answer of the card";
     }
@@ -190,6 +204,26 @@ struct card_answer card_post(uint8_t *card, size_t len, uint32_t bib, uint32_t a
  * Refused: 1, 2, 3, 4 as card_post; 5, nothing stands; 6 as card_post.
  * Leaves what card_post would, with a strike in the place of the post. The answer is all zeros. */
 struct card_answer card_strike(uint8_t *card, size_t len, uint32_t bib, uint32_t at);
+
+/* Makes many posts and strikes in one call: a heat sheet, or a morning's results.
+ * `requests` are sectors of 16 bytes, one behind the other. Byte 0 is the kind, 1 for a post and 2
+ * for a strike; bytes 1 to 3 are 0; bib, stamp and value follow, each of 4 bytes, low first, from
+ * bytes 4, 8 and 12 on. The value is the time of a post, and 0 in a strike. `answers` has one byte
+ * for each request, which becomes its answer number. Neither is null, all their bytes can be read
+ * and those of `answers` written, and no byte is lent twice: card, requests and answers do not
+ * overlap.
+ * Card and answers are left as the same calls, one by one and in this order, would leave and answer
+ * them, and so it does not matter where a row of requests is cut into batches. A request that is
+ * refused changes no byte of the card and does not stop the batch. What is saved is time: a post
+ * by itself reads the whole card for its largest stamp, a batch reads it once for all requests.
+ * The batch itself answers 12 ahead of all else if `requests_len` is no multiple of 16 or if
+ * `answers_len` is not the number of requests; then nothing is written, no answer either. Otherwise
+ * it answers 0, also where there is no request, and also where every request is refused.
+ * A request is refused: 1, head or length breaks the layout, so that every request is answered 1;
+ * 11, its kind is not 1 or 2, one of its bytes 1 to 3 is not 0, or it is a strike with a value; then
+ * 2, 3, 4, 5, 6 as card_post and card_strike. */
+uint32_t card_batch(uint8_t *card, size_t len, const uint8_t *requests, size_t requests_len,
+                    uint8_t *answers, size_t answers_len);
 
 /* What stands for `bib` as of stamp `at`.
  * Found: bib, stamp and time of the record, and the number of buckets read. None: bib, stamp 0,

@@ -87,6 +87,46 @@ static void a_full_card(void) {
     CHECK(card_post(card, sizeof card, 1, at, 5).code == CARD_FULL && CARD_FULL == 6);
 }
 
+/* A request in the layout that the header words: kind, three zeros, bib, stamp, value, low bytes first. */
+static void request(uint8_t *at, uint8_t kind, uint8_t bib, uint8_t stamp, uint8_t value) {
+    memset(at, 0, CARD_SECTOR_BYTES);
+    at[0] = kind;
+    at[4] = bib;
+    at[8] = stamp;
+    at[12] = value;
+}
+
+/* Each answer of a request, and both of the batch; what is expected was reckoned from the header's words. The card has
+ * room for three entries. */
+static void batches(void) {
+    static const uint8_t said[9] = {0, 3, 2, 11, 11, 0, 5, 0, 6};
+    static const uint8_t nothing[9] = {0};
+    uint8_t requests[9 * CARD_SECTOR_BYTES], answers[9] = {0};
+    uint8_t card[CARD_BYTES(2, 4)] = {0}, before[sizeof card];
+    request(requests, CARD_KIND_POST, 7, 10, 90);
+    request(requests + 16, CARD_KIND_POST, 8, 10, 91); /* not above 10 */
+    request(requests + 32, CARD_KIND_STRIKE, 0, 11, 0);
+    request(requests + 48, 3, 7, 11, 0);
+    request(requests + 64, CARD_KIND_STRIKE, 7, 11, 1); /* with a value */
+    request(requests + 80, CARD_KIND_STRIKE, 7, 11, 0);
+    request(requests + 96, CARD_KIND_STRIKE, 7, 12, 0); /* struck already */
+    request(requests + 112, CARD_KIND_POST, 7, 12, 92);
+    request(requests + 128, CARD_KIND_POST, 7, 13, 93); /* no room */
+    CHECK(card_batch(card, sizeof card, requests, 32, answers, 2) == CARD_OK);
+    CHECK(answers[0] == CARD_LAYOUT && answers[1] == CARD_LAYOUT && answers[2] == 0);
+    CHECK(card_format(card, sizeof card, 2, 4, 0, 0).code == CARD_OK);
+    memcpy(before, card, sizeof card);
+    memset(answers, 0, sizeof answers);
+    CHECK(card_batch(card, sizeof card, requests, 31, answers, 2) == CARD_UNPAIRED && CARD_UNPAIRED == 12);
+    CHECK(card_batch(card, sizeof card, requests, 32, answers, 1) == CARD_UNPAIRED);
+    CHECK(card_batch(card, sizeof card, requests, 0, answers, 0) == CARD_OK);
+    CHECK(memcmp(card, before, sizeof card) == 0 && memcmp(answers, nothing, sizeof answers) == 0);
+    CHECK(card_batch(card, sizeof card, requests, sizeof requests, answers, sizeof answers) == CARD_OK);
+    CHECK(memcmp(answers, said, sizeof answers) == 0 && CARD_NO_REQUEST == 11);
+    CHECK(card_look(card, sizeof card, 7, 10).time == 90 && card_look(card, sizeof card, 7, 11).at == 0);
+    CHECK(card_look(card, sizeof card, 7, 12).time == 92 && card_state(card, sizeof card).last == 12);
+}
+
 /* A card's state, and that of bytes that are no card. */
 static void states(void) {
     static const struct card_state blank = {CARD_LAYOUT, 0, 0, 0, 0, 0, 0, 0};
@@ -113,9 +153,12 @@ static void texts(void) {
         "the shape breaks a limit or is not of the card's length",
         "the card is not blank",
         "no answer of the card",
+        "the request is not laid out as a post or a strike",
+        "the requests are not whole or not as many as the answers",
+        "no answer of the card",
     };
     uint32_t code;
-    for (code = 0; code <= 10; code++)
+    for (code = 0; code < sizeof said / sizeof *said; code++)
         check(strcmp(card_text(code), said[code]) == 0, said[code]);
 }
 
@@ -131,6 +174,7 @@ int main(void) {
     thresholds();
     answer_numbers();
     a_full_card();
+    batches();
     states();
     texts();
     version();
