@@ -87,7 +87,9 @@ fn a_time_of_zero_stands() {
 
 #[test]
 fn panels_as_shown() {
-    for (time, field, shown) in [(5, 4, "00.01"), (61_230, 5, "1:01.23"), (61_231, 5, "1:01.24"), (5_999_990, 6, "99:59.99")] {
+    for (time, field, shown) in
+        [(5, 4, "00.01"), (61_230, 5, "1:01.23"), (61_231, 5, "1:01.24"), (5_999_990, 6, "99:59.99")]
+    {
         let panel = card::digits(time, field).unwrap();
         assert_eq!((panel.to_string().as_str(), panel.digits().len()), (shown, field as usize));
         assert!(panel.places()[field as usize..].iter().all(|&place| place == 0));
