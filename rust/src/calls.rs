@@ -1,15 +1,12 @@
 //! The calls, in Rust types.
 
 use crate::numbers::{self, Answer};
-use crate::{Look, Panel, Record, Records, Refusal, Shape, State};
+use crate::refusal::refused;
+use crate::{Answers, Look, Panel, Record, Records, Refusal, Shape, State};
 
 /// The answer of an accepted call, or the refusal.
 fn accepted(answer: Answer) -> Result<Answer, Refusal> {
     refused(answer.code).map_or(Ok(answer), Err)
-}
-
-fn refused(number: u32) -> Option<Refusal> {
-    (number != 0).then(|| Refusal::try_from(number).expect("the library answers by these numbers"))
 }
 
 /// Makes a blank card, all bytes zero and as long as the shape asks, an empty one.
@@ -64,6 +61,44 @@ pub fn post(card: &mut [u8], bib: u32, at: u32, time: u32) -> Result<(), Refusal
 /// ```
 pub fn strike(card: &mut [u8], bib: u32, at: u32) -> Result<(), Refusal> {
     accepted(numbers::strike(card, bib, at)).map(drop)
+}
+
+/// Makes many posts and strikes in one call, each of them a sector as [`crate::Request::sector`] gives it.
+/// Card and answers are those that the same calls one by one would leave and give, and a refused request
+/// does not stop the batch; but what a single call has to read off the whole card is read once for all.
+///
+/// There is a byte of `answers` for each request, else the batch is refused as [`Refusal::Unpaired`] and no
+/// byte changes. Each request is answered by itself: as [`Refusal::Layout`], as [`Refusal::NoRequest`] where
+/// its kind is not 1 or 2, where bytes 1 to 3 are not zero or where a strike has a value, or as [`post`] and
+/// [`strike`] are, the first of these that holds.
+///
+/// ```
+/// use card::{Refusal, Request, Shape};
+///
+/// let mut bytes = vec![0; Shape::new(16, 4).bytes().unwrap()];
+/// card::format(&mut bytes, Shape::new(16, 4))?;
+/// let sheet = [
+///     Request::Post { bib: 7, at: 100, time: 59_990 },
+///     Request::Post { bib: 5, at: 90, time: 58_120 }, // a stamp that runs backwards
+///     Request::Strike { bib: 7, at: 110 },
+/// ];
+/// let mut numbers = [0; 3];
+/// let mut answers = card::batch(&mut bytes, &sheet.map(Request::sector), &mut numbers)?;
+/// assert_eq!(answers.next(), Some(Ok(())));
+/// assert_eq!(answers.next(), Some(Err(Refusal::Stamp)));
+/// assert_eq!(answers.next(), Some(Ok(())));
+/// assert_eq!(card::look(&bytes, 7, 109)?.record.unwrap().time, 59_990);
+/// # Ok::<(), Refusal>(())
+/// ```
+pub fn batch<'a>(
+    card: &mut [u8],
+    requests: &[[u8; 16]],
+    answers: &'a mut [u8],
+) -> Result<Answers<'a>, Refusal> {
+    match refused(numbers::batch(card, requests.as_flattened(), answers)) {
+        Some(refusal) => Err(refusal),
+        None => Ok(Answers::of(answers)),
+    }
 }
 
 /// What stands for a bib as of a stamp, and the buckets read to find it.

@@ -31,21 +31,25 @@
 #![no_std]
 #![deny(missing_docs)]
 
+mod answers;
 mod calls;
 pub mod numbers;
 mod panel;
 mod record;
 mod records;
 mod refusal;
+mod request;
 mod scroll;
 mod shape;
 mod state;
 
-pub use calls::{digits, format, look, next, post, records, state, strike};
+pub use answers::Answers;
+pub use calls::{batch, digits, format, look, next, post, records, state, strike};
 pub use panel::Panel;
 pub use record::{Look, Record};
 pub use records::Records;
 pub use refusal::{NoRefusal, Refusal};
+pub use request::Request;
 pub use scroll::{scroll, scroll_above, Scroll};
 pub use shape::Shape;
 pub use state::State;

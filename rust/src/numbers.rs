@@ -73,6 +73,14 @@ mod library {
             -> Answer;
         pub fn card_post(card: *mut u8, len: usize, bib: u32, at: u32, time: u32) -> Answer;
         pub fn card_strike(card: *mut u8, len: usize, bib: u32, at: u32) -> Answer;
+        pub fn card_batch(
+            card: *mut u8,
+            len: usize,
+            requests: *const u8,
+            requests_len: usize,
+            answers: *mut u8,
+            answers_len: usize,
+        ) -> u32;
         pub fn card_look(card: *const u8, len: usize, bib: u32, at: u32) -> Answer;
         pub fn card_next(card: *const u8, len: usize, bib: u32, at: u32) -> Answer;
         pub fn card_records(
@@ -88,9 +96,9 @@ mod library {
     }
 }
 
-// Each call below is sound for one reason: the library takes every card and every number, and it
-// reads and writes only the `len` bytes from `card` and the `room` bytes from `out`, which the slices
-// lend for the call alone.
+// Each call below is sound for one reason: the library takes every card, every request and every number,
+// and it reads and writes only the bytes lent to it, as many from each pointer as the length behind it says,
+// which the slices lend for the call alone. Slices of which one can be written never overlap.
 
 /// As [`crate::format`].
 pub fn format(card: &mut [u8], buckets: u32, sectors: u32, td: u32, ti: u32) -> Answer {
@@ -105,6 +113,21 @@ pub fn post(card: &mut [u8], bib: u32, at: u32, time: u32) -> Answer {
 /// As [`crate::strike`].
 pub fn strike(card: &mut [u8], bib: u32, at: u32) -> Answer {
     unsafe { library::card_strike(card.as_mut_ptr(), card.len(), bib, at) }
+}
+
+/// As [`crate::batch`], its requests as bytes: 0, or 12, which is also given where their number is no
+/// multiple of 16. Each byte of `answers` is then the number of an answer, or as it was.
+pub fn batch(card: &mut [u8], requests: &[u8], answers: &mut [u8]) -> u32 {
+    unsafe {
+        library::card_batch(
+            card.as_mut_ptr(),
+            card.len(),
+            requests.as_ptr(),
+            requests.len(),
+            answers.as_mut_ptr(),
+            answers.len(),
+        )
+    }
 }
 
 /// As [`crate::look`].

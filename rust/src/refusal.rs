@@ -26,10 +26,14 @@ pub enum Refusal {
     Shape = 8,
     /// 9: a byte of the card to be formatted is nonzero.
     NotBlank = 9,
+    /// 11: a request of a batch is not laid out as a post or a strike.
+    NoRequest = 11,
+    /// 12: the requests of a batch are not whole, or not as many as the places for their answers.
+    Unpaired = 12,
 }
 
 impl Refusal {
-    const ALL: [Refusal; 9] = [
+    const ALL: [Refusal; 11] = [
         Refusal::Layout,
         Refusal::NoBib,
         Refusal::Stamp,
@@ -39,6 +43,8 @@ impl Refusal {
         Refusal::Panel,
         Refusal::Shape,
         Refusal::NotBlank,
+        Refusal::NoRequest,
+        Refusal::Unpaired,
     ];
 
     /// The answer number.
@@ -49,6 +55,11 @@ impl Refusal {
     pub const fn number(self) -> u32 {
         self as u32
     }
+}
+
+/// The refusal that the library answers by a number; 0 is none.
+pub(crate) fn refused(number: u32) -> Option<Refusal> {
+    (number != 0).then(|| Refusal::try_from(number).expect("the library answers by these numbers"))
 }
 
 /// The answer number.
@@ -85,6 +96,8 @@ impl fmt::Display for Refusal {
             Refusal::Panel => "the time does not fit the field",
             Refusal::Shape => "the shape breaks a limit or is not of the card's length",
             Refusal::NotBlank => "the card is not blank",
+            Refusal::NoRequest => "the request is not laid out as a post or a strike",
+            Refusal::Unpaired => "the requests are not whole or not as many as the answers",
         })
     }
 }

@@ -1,7 +1,7 @@
 //! The card that docs/FORMAT.md shows: its bytes were written down by hand from the rules. The calls it names
 //! leave just these bytes, and its questions have the answers it gives.
 
-use card::{Look, Record, Refusal, Shape, State};
+use card::{Look, Record, Refusal, Request, Shape, State};
 
 const PAGE: &str = include_str!("../../docs/FORMAT.md");
 
@@ -36,6 +36,23 @@ fn the_calls_leave_these_bytes() {
     card::strike(&mut card, 7, 120).unwrap();
     card::post(&mut card, 9, 130, 58_120).unwrap();
     assert_eq!(card, dumped());
+}
+
+/// The same four as one batch.
+#[test]
+fn one_batch_leaves_these_bytes() {
+    let shape = Shape::new(4, 4).td(3).ti(4);
+    let mut card = vec![0; shape.bytes().unwrap()];
+    card::format(&mut card, shape).unwrap();
+    let asked = [
+        Request::Post { bib: 7, at: 100, time: 59_990 },
+        Request::Post { bib: 12, at: 110, time: 61_230 },
+        Request::Strike { bib: 7, at: 120 },
+        Request::Post { bib: 9, at: 130, time: 58_120 },
+    ];
+    let mut numbers = [0x5a; 4];
+    card::batch(&mut card, &asked.map(Request::sector), &mut numbers).unwrap();
+    assert_eq!((numbers, card), ([0; 4], dumped()));
 }
 
 #[test]

@@ -1,6 +1,6 @@
 //! The safe functions say in Rust types what the numbers say.
 
-use card::{Look, NoRefusal, Record, Refusal, Shape};
+use card::{Look, NoRefusal, Record, Refusal, Request, Shape};
 
 fn small() -> Vec<u8> {
     let shape = Shape::new(2, 4);
@@ -25,10 +25,12 @@ fn each_refusal_by_its_name() {
     assert_eq!(card::format(&mut bytes, Shape::new(2, 4)), Err(Refusal::NotBlank));
     bytes[16] = 5;
     assert_eq!(card::next(&bytes, 0, 9), Err(Refusal::Damage));
+    let unpaired = card::batch(&mut bytes, &[[0; 16]], &mut [0; 2]).map(drop);
+    assert_eq!(unpaired, Err(Refusal::Unpaired));
 }
 
 /// Each number, its name and its words.
-const SAID: [(u32, Refusal, &str); 9] = [
+const SAID: [(u32, Refusal, &str); 11] = [
     (1, Refusal::Layout, "the card's head or length breaks the layout"),
     (2, Refusal::NoBib, "bib 0 is no bib"),
     (3, Refusal::Stamp, "the stamp is not above the largest on the card"),
@@ -38,6 +40,8 @@ const SAID: [(u32, Refusal, &str); 9] = [
     (7, Refusal::Panel, "the time does not fit the field"),
     (8, Refusal::Shape, "the shape breaks a limit or is not of the card's length"),
     (9, Refusal::NotBlank, "the card is not blank"),
+    (11, Refusal::NoRequest, "the request is not laid out as a post or a strike"),
+    (12, Refusal::Unpaired, "the requests are not whole or not as many as the answers"),
 ];
 
 #[test]
@@ -47,10 +51,31 @@ fn numbers_names_and_words() {
         assert_eq!((u32::from(refusal), refusal.number()), (number, number));
         assert_eq!(refusal.to_string(), words);
     }
-    for number in [0, 10, 11, u32::MAX] {
+    for number in [0, 10, 13, u32::MAX] {
         assert_eq!(Refusal::try_from(number), Err(NoRefusal(number)));
         assert_eq!(NoRefusal(number).to_string(), format!("no refusal has the number {number}"));
     }
+}
+
+/// What each request of a batch is answered, from either end, and the bytes that its requests are.
+#[test]
+fn a_batch_in_rust_types() {
+    let mut bytes = small();
+    let post = Request::Post { bib: 0x0403_0201, at: 0x0807_0605, time: 0x0c0b_0a09 };
+    let strike = Request::Strike { bib: 0x0403_0201, at: 0x0807_0606 };
+    assert_eq!(post.sector(), [1, 0, 0, 0, 1, 2, 3, 4, 5, 6, 7, 8, 9, 10, 11, 12]);
+    assert_eq!(strike.sector(), [2, 0, 0, 0, 1, 2, 3, 4, 6, 6, 7, 8, 0, 0, 0, 0]);
+    let no_bib = Request::Post { bib: 0, at: u32::MAX, time: 1 };
+    let sheet = [post.sector(), [9; 16], no_bib.sector(), strike.sector(), strike.sector()];
+    let mut numbers = [0x5a; 5];
+    let mut answers = card::batch(&mut bytes, &sheet, &mut numbers).unwrap();
+    assert_eq!((answers.len(), answers.next_back()), (5, Some(Err(Refusal::Stamp))));
+    let rest: Vec<_> = answers.by_ref().collect();
+    assert_eq!(rest, [Ok(()), Err(Refusal::NoRequest), Err(Refusal::NoBib), Ok(())]);
+    assert_eq!((answers.next(), answers.next_back()), (None, None));
+    assert_eq!(numbers, [0, 11, 2, 0, 3]);
+    let then = card::look(&bytes, 0x0403_0201, 0x0807_0605).unwrap().record;
+    assert_eq!(then, Some(Record { bib: 0x0403_0201, at: 0x0807_0605, time: 0x0c0b_0a09 }));
 }
 
 /// The head has m, TD and TI in bytes 1 to 3; a threshold of 0 is stored as the number meant.
