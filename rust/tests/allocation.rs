@@ -4,7 +4,9 @@
 mod common;
 
 use card_model::call::{Call, Calls, MODEL};
+use common::batch;
 use common::growth::{Day, Geometry};
+use common::pair::Tally;
 use common::random::Random;
 use common::LIBRARY;
 use std::alloc::{GlobalAlloc, Layout, System};
@@ -47,8 +49,8 @@ fn the_count_counts() {
 }
 
 /// Days on cards that fill up, and what is answered by number.
-fn days(side: &Calls) -> [u64; 10] {
-    let mut tally = [0; 10];
+fn days(side: &Calls) -> Tally {
+    let mut tally = Tally::default();
     for seed in 1..=60 {
         let mut random = Random::new(seed);
         let mut geometry = Geometry::random(&mut random);
@@ -64,6 +66,40 @@ fn days(side: &Calls) -> [u64; 10] {
         }
     }
     tally
+}
+
+/// Batches on cards that fill up, on one that is damaged and on none; what is answered by number.
+fn batches(side: &Calls) -> Tally {
+    let mut tally = Tally::default();
+    for seed in 1..=20 {
+        let mut random = Random::new(seed);
+        let mut geometry = Geometry::random(&mut random);
+        geometry.buckets = geometry.buckets.min(20);
+        let mut card = vec![0; geometry.length()];
+        geometry.format().run(side, &mut card);
+        let mut day = Day::random(&mut random);
+        for byte in [None, None, Some(16), Some(0)] {
+            // the log's first entry is of no kind, then the head
+            byte.into_iter().for_each(|place: usize| card[place] = 7);
+            let requests = batch::day(&mut random, &mut day, 100);
+            let mut answers = [0; 100];
+            let (code, count) = asked(|| (side.batch)(&mut card, &requests, &mut answers));
+            assert_eq!((code, count), (0, 0));
+            assert_eq!(asked(|| (side.batch)(&mut card, &requests[1..], &mut answers)), (12, 0));
+            answers.iter().for_each(|&answer| tally[answer as usize] += 1);
+        }
+    }
+    tally
+}
+
+#[test]
+fn no_batch_of_either_allocates() {
+    for side in [LIBRARY, MODEL] {
+        let tally = batches(&side);
+        for number in [0, 1, 2, 3, 4, 5, 6, 11] {
+            assert!(tally[number] > 0, "no request was answered {number}");
+        }
+    }
 }
 
 #[test]

@@ -8,6 +8,7 @@ use card::{Record, Refusal, Shape};
 use card_model::list::{List, Said};
 use common::guarded::Guarded;
 use common::mutate::damage;
+use common::pair;
 use common::random::Random;
 use common::{foreign, rounds};
 
@@ -153,7 +154,7 @@ fn in_a_row_on_cards_not_of_our_making() {
         for _ in 0..random.of(&[0, 1, 2]) {
             damage(&mut card, &mut random);
         }
-        let mut tally = [0; 10];
+        let mut tally = pair::Tally::default();
         for _ in 0..8 {
             let (bib, room) = (random.of(&[0, 0, 1, 5, 20]), random.within(0, 200));
             let at = if random.chance(50) { u32::MAX } else { random.within(0, 62) };

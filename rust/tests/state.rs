@@ -8,6 +8,7 @@ use card_model::State;
 use common::bytes::{first_sector, put, put_head, Entry};
 use common::growth::{Day, Geometry};
 use common::mutate::damage;
+use common::pair::Tally;
 use common::random::Random;
 use common::wrapper::WRAPPER;
 use common::{foreign, length, rounds, LIBRARY};
@@ -112,7 +113,7 @@ fn as_the_refusals_go_by() {
             damage(&mut card, &mut random);
         }
         let State { code, buckets, sectors, last, used, .. } = state(&card);
-        let mut tally = [0; 10];
+        let mut tally = Tally::default();
         tally[code as usize] += 1;
         if code != 0 {
             return tally;

@@ -6,6 +6,7 @@
 #![forbid(unsafe_code)]
 
 mod answer;
+mod batch;
 mod beside;
 mod blank;
 mod bucket;
@@ -27,6 +28,7 @@ mod walk;
 mod writing;
 
 pub use answer::Answer;
+pub use batch::batch;
 pub use panel::{digits, Digits};
 pub use reading::{look, next};
 pub use state::{state, State};

@@ -11,16 +11,17 @@ type Sent = Row<2>;
 /// The entries in hand: those of a full bucket and what was sent to it.
 type Hand = Row<{ MOST_SECTORS + 2 }>;
 
-/// What is taken already: buckets up to the highest used, and the log's written sectors.
+/// What is taken already: buckets up to the highest used, the log's written sectors, and the root they give.
 #[derive(Clone, Copy)]
 pub struct Taken {
     pub buckets: u32,
     pub log: usize,
+    pub root: u32,
 }
 
-/// Writes `entry` over the buckets of its path, root first. `None` if the card has too few fresh buckets
-/// or no blank log sector for a new root; then nothing is written.
-pub fn write(card: &mut [u8], head: &Head, taken: Taken, path: &[u32], entry: Entry) -> Option<()> {
+/// Writes `entry` over the buckets of its path, root first, and gives what is taken then. `None` if the card
+/// has too few fresh buckets or no blank log sector for a new root; then nothing is written.
+pub fn write(card: &mut [u8], head: &Head, taken: Taken, path: &[u32], entry: Entry) -> Option<Taken> {
     // two buckets for each level and one above them are the most that a write takes
     let most = taken.buckets as usize + 2 * path.len() + 1;
     let sure = most <= head.buckets as usize && taken.log < head.buckets as usize;
@@ -42,7 +43,7 @@ struct Climb<'a> {
 }
 
 impl Climb<'_> {
-    fn up(&mut self, path: &[u32], entry: Entry) -> Option<()> {
+    fn up(mut self, path: &[u32], entry: Entry) -> Option<Taken> {
         let mut sent = Sent::new();
         sent.push(entry);
         for &bucket in path.iter().rev() {
@@ -50,13 +51,14 @@ impl Climb<'_> {
             let from = run.len();
             if run.blanks() >= sent.entries().len() {
                 self.lay(self.head.place(bucket, from), sent.entries());
-                return Some(());
+                return Some(self.taken);
             }
             let limit = if run.is_index() { self.head.ti } else { self.head.td };
             let kept = kept(&run, sent.entries());
             sent = self.renewed(kept.entries(), limit)?;
         }
-        self.new_root(sent.entries())
+        self.new_root(sent.entries())?;
+        Some(self.taken)
     }
 
     /// Entries one after the other from a place of the card on.
@@ -101,6 +103,8 @@ impl Climb<'_> {
             return None;
         }
         self.lay(SECTOR * (1 + self.taken.log), &[Entry { kind: ROOT, key: 0, ..top }]);
+        self.taken.log += 1;
+        self.taken.root = top.value;
         Some(())
     }
 }

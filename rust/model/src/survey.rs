@@ -16,9 +16,14 @@ impl<'a> Survey<'a> {
         Survey { written, bucket_sectors: head.sectors as usize }
     }
 
-    /// The largest stamp field of any bucket sector with nonzero kind, or 0.
+    /// The largest stamp field of any bucket sector with nonzero kind, or 0. Mostly a sector with the largest
+    /// field of all has a kind, and then no other kind matters.
     pub fn largest_stamp(&self) -> u32 {
-        let stamps = self.written.iter().map(|sector| if sector[0] == 0 { 0 } else { number(sector, 8) });
+        let largest = self.written.iter().map(stamp_field).max().unwrap_or(0);
+        if self.any_sector(|sector| (stamp_field(sector) == largest) & (sector[0] != 0)) {
+            return largest;
+        }
+        let stamps = self.written.iter().filter(|sector| sector[0] != 0).map(stamp_field);
         stamps.max().unwrap_or(0)
     }
 
@@ -28,17 +33,25 @@ impl<'a> Survey<'a> {
         stamp > 0 && (self.no_field_reaches(stamp) || self.largest_stamp() < stamp)
     }
 
-    /// Whether every stamp field, of a sector of whatever kind, is below `stamp`. Sixteen sectors
-    /// at a time without a way out, which the compiler does several at a time.
+    /// Whether every stamp field, of a sector of whatever kind, is below `stamp`.
     fn no_field_reaches(&self, stamp: u32) -> bool {
-        let reaches = |sector: &Bytes| number(sector, 8) >= stamp;
+        !self.any_sector(|sector| stamp_field(sector) >= stamp)
+    }
+
+    /// Whether a sector is as asked. Sixteen sectors at a time without a way out, which the compiler does
+    /// several at a time; from behind, where the newest mostly are.
+    fn any_sector(&self, asked: impl Fn(&Bytes) -> bool) -> bool {
         let (wide, rest) = self.written.as_chunks::<16>();
-        !wide.iter().any(|sectors| sectors.iter().fold(false, |any, sector| any | reaches(sector)))
-            && !rest.iter().any(reaches)
+        rest.iter().any(&asked)
+            || wide.iter().rev().any(|sectors| sectors.iter().fold(false, |any, sector| any | asked(sector)))
     }
 
     /// The highest bucket with a nonzero byte, or 0.
     pub fn highest_used(&self) -> u32 {
         self.written.len().div_ceil(self.bucket_sectors) as u32
     }
+}
+
+fn stamp_field(sector: &Bytes) -> u32 {
+    number(sector, 8)
 }

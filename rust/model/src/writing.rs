@@ -11,7 +11,7 @@ use crate::survey::Survey;
 use crate::walk::{walk, Place};
 
 /// Writes walk with this t: no entry is later.
-const NOW: u32 = u32::MAX;
+pub const NOW: u32 = u32::MAX;
 
 /// Each index bucket of ours leads at least two ways, but for a first root, so that no card of ours has a
 /// path as long. On a foreign one that has, the walk is made again with room for any path, which takes
@@ -73,27 +73,31 @@ fn entered(card: &mut [u8], entry: Entry) -> Result<(), u32> {
     }
     let buckets = survey.highest_used();
     let log = Log::judged(head.log(card), head.buckets, NOW).ok_or(4u32)?;
-    let taken = Taken { buckets, log: log.len };
-    let root = Place::root(log.root);
-    let levels = along::<USUAL_LEVELS>(card, &head, root, taken, entry)?;
-    if levels > USUAL_LEVELS {
-        along::<MOST_BUCKETS>(card, &head, root, taken, entry)?;
-    }
-    Ok(())
+    enter(card, &head, Taken { buckets, log: log.len, root: log.root }, entry).map(drop)
 }
 
-/// Writes the entry along its path, or gives the refusal, and the buckets of the path. If these are more
-/// than `MOST`, nothing is written.
+/// Writes an entry stamped later than all others on a card whose log is sound, or gives the refusal. What is
+/// taken afterwards is what the next such entry starts from.
+pub fn enter(card: &mut [u8], head: &Head, taken: Taken, entry: Entry) -> Result<Taken, u32> {
+    if let Some(taken) = along::<USUAL_LEVELS>(card, head, taken, entry)? {
+        return Ok(taken);
+    }
+    let taken = along::<MOST_BUCKETS>(card, head, taken, entry)?;
+    Ok(taken.expect("no path has more buckets than a card"))
+}
+
+/// Writes the entry along its path, or gives the refusal. `None` if the path has more than `MOST` buckets;
+/// then nothing is written. Never inlined: the caller of both paths would have the long one in its frame.
+#[inline(never)]
 fn along<const MOST: usize>(
     card: &mut [u8],
     head: &Head,
-    root: Place,
     taken: Taken,
     entry: Entry,
-) -> Result<usize, u32> {
+) -> Result<Option<Taken>, u32> {
     let mut path = [0; MOST];
     let mut levels = 0;
-    let reached = walk(card, head, root, (entry.key, NOW), |place, _| {
+    let reached = walk(card, head, Place::root(taken.root), (entry.key, NOW), |place, _| {
         if let Some(level) = path.get_mut(levels) {
             *level = place.bucket;
         }
@@ -103,8 +107,8 @@ fn along<const MOST: usize>(
     if entry.kind == STRIKE && standing(&reached.data, entry.key).is_none() {
         return Err(5);
     }
-    if let Some(path) = path.get(..levels) {
-        rewrite::write(card, head, taken, path, entry).ok_or(6u32)?;
+    match path.get(..levels) {
+        Some(path) => rewrite::write(card, head, taken, path, entry).map(Some).ok_or(6),
+        None => Ok(None),
     }
-    Ok(levels)
 }

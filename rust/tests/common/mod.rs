@@ -2,6 +2,7 @@
 //! implementations at once.
 #![allow(dead_code)] // each test takes what it wants of this
 
+pub mod batch;
 pub mod bytes;
 pub mod deep;
 pub mod foreign;
@@ -23,6 +24,7 @@ pub const LIBRARY: Calls = Calls {
     format: |card, buckets, sectors, td, ti| answer(card::numbers::format(card, buckets, sectors, td, ti)),
     post: |card, bib, at, time| answer(card::numbers::post(card, bib, at, time)),
     strike: |card, bib, at| answer(card::numbers::strike(card, bib, at)),
+    batch: card::numbers::batch,
     look: |card, bib, at| answer(card::numbers::look(card, bib, at)),
     next: |card, bib, at| answer(card::numbers::next(card, bib, at)),
     state: |card| {
@@ -50,7 +52,7 @@ pub fn length(buckets: u32, sectors: u32) -> usize {
 /// printed, that round comes first. Every number of `wanted` has to be answered at least once.
 pub fn rounds(name: &str, share: u64, wanted: &[usize], mut round: impl FnMut(u64) -> Tally) {
     let (most, first) = (setting("CARD_CALLS", 400_000) * share / 100, setting("CARD_SEED", 1));
-    let (mut seed, mut tally): (u64, Tally) = (first, [0; 10]);
+    let (mut seed, mut tally) = (first, Tally::default());
     while tally.iter().sum::<u64>() < most {
         for (sum, given) in tally.iter_mut().zip(round(seed)) {
             *sum += given;

@@ -8,8 +8,8 @@ use super::LIBRARY;
 use card_model::call::{Call, MODEL};
 use card_model::Answer;
 
-/// How often each answer number was given.
-pub type Tally = [u64; 10];
+/// How often each answer number, from 0 to 12, was given.
+pub type Tally = [u64; 13];
 
 fn is_question(call: Call) -> bool {
     matches!(call, Call::Look { .. } | Call::Next { .. })
@@ -25,7 +25,13 @@ pub struct Pair {
 
 impl Pair {
     pub fn new(seed: u64, card: Vec<u8>) -> Pair {
-        Pair { seed, lent: Guarded::new(&card, seed as usize % 16), own: card, calls: 0, tally: [0; 10] }
+        Pair {
+            seed,
+            lent: Guarded::new(&card, seed as usize % 16),
+            own: card,
+            calls: 0,
+            tally: Tally::default(),
+        }
     }
 
     /// A blank card on either side, formatted.

@@ -10,6 +10,21 @@ pub const WRAPPER: Calls = Calls {
     },
     post: |card, bib, at, time| done(card::post(card, bib, at, time)),
     strike: |card, bib, at| done(card::strike(card, bib, at)),
+    batch: |card, requests, answers| {
+        // bytes that are no row of whole requests can be lent by the numbers alone
+        let (sectors, rest) = requests.as_chunks();
+        if !rest.is_empty() {
+            return card::numbers::batch(card, requests, answers);
+        }
+        match card::batch(card, sectors, answers) {
+            Err(refusal) => refusal.into(),
+            Ok(told) => {
+                let numbers: Vec<u8> = told.map(|answer| done(answer).code as u8).collect();
+                answers.copy_from_slice(&numbers);
+                0
+            }
+        }
+    },
     look: |card, bib, at| match card::look(card, bib, at) {
         Ok(Look { record: Some(record), reads }) => Answer { reads, ..found(record) },
         Ok(Look { record: None, reads }) => Answer { bib, reads, ..Answer::ACCEPTED },
