@@ -3,6 +3,7 @@
 mod common;
 
 use card_model::call::Call;
+use common::batch;
 use common::growth::Geometry;
 use common::length;
 use common::pair::Pair;
@@ -10,6 +11,7 @@ use common::random::Random;
 
 /// Each call once, on a slice that is most likely no card.
 fn every_call(pair: &mut Pair) {
+    batch::compared(pair.card(), &batch::requests(&[(1, 5, 1000, 1), (2, 5, 1001, 0)]), &[0x5a; 2]);
     pair.call(Call::Post { bib: 5, at: 1000, time: 1 });
     pair.call(Call::Strike { bib: 8, at: 1001 });
     pair.call(Call::Look { bib: 8, at: 49 });

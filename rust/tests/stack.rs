@@ -5,7 +5,7 @@ mod common;
 use card_model::call::{Call, MODEL};
 use common::bytes::get;
 use common::growth::Geometry;
-use common::{deep, stack, LIBRARY};
+use common::{batch, deep, stack, LIBRARY};
 
 const HEADER: &str = include_str!("../../include/card.h");
 
@@ -34,6 +34,23 @@ fn tall() -> (Vec<u8>, Vec<u8>, Call) {
     }
     let (before, call) = last.expect("a root was rewritten");
     (card, before, call)
+}
+
+/// A batch that has the post among its requests, accepted.
+#[test]
+fn a_batch_on_cards_of_ours() {
+    let (_, before, rewrites) = tall();
+    let taken = of_batch(&before, rewrites);
+    assert!(taken <= said("CARD_STACK_OURS"), "a batch with {rewrites:?} takes {taken}");
+}
+
+/// What a batch of two takes on a copy of the card: one that is refused, and the post.
+fn of_batch(card: &[u8], post: Call) -> usize {
+    let requests = batch::requests_of(&[Call::Post { bib: 0, at: 1, time: 1 }, post]);
+    let (mut copy, mut answers) = (card.to_vec(), [0x5a; 2]);
+    let taken = stack::on_a_thread(|| assert_eq!((LIBRARY.batch)(&mut copy, &requests, &mut answers), 0));
+    assert_eq!(answers, [2, 0]);
+    taken
 }
 
 #[test]
@@ -79,4 +96,6 @@ fn on_any_card() {
         let taken = stack::of_call(LIBRARY, card, call);
         assert!(taken <= most, "{call:?} takes {taken}");
     }
+    let batch = of_batch(&full, post);
+    assert!(batch <= most, "a batch with {post:?} takes {batch}");
 }
