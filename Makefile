@@ -27,9 +27,9 @@ $(ARCHIVE): $(SOURCES)
 install: $(ARCHIVE)
 	@scripts/install "$(PREFIX)"
 
-# The library against the Rust implementation, in one run.
+# The library against the Rust implementation: single calls, batches, stack.
 bench: $(ARCHIVE)
-	@cd rust && cargo bench --offline --bench speed && cargo bench --offline --bench stack
+	@cd rust && for table in speed batch stack; do cargo bench --offline --bench $$table; done
 
 # Easton's experiment on the library.
 easton: $(ARCHIVE)

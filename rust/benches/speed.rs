@@ -7,6 +7,7 @@
 #[path = "../tests/common/mod.rs"]
 mod common;
 mod grown;
+mod timing;
 
 use card_model::call::{Call, Calls, MODEL};
 use common::growth::Geometry;
@@ -16,6 +17,7 @@ use grown::Grown;
 use std::env;
 use std::hint::black_box;
 use std::time::Instant;
+use timing::median;
 
 /// What one side did in a round: nanoseconds for a call, and a sum over its answers.
 struct Took {
@@ -33,11 +35,6 @@ fn timed(side: &Calls, card: &mut [u8], calls: &[Call]) -> Took {
         sum = said.iter().fold(sum, |sum, &number| sum.wrapping_mul(31).wrapping_add(number.into()));
     }
     Took { each: start.elapsed().as_nanos() as f64 / calls.len() as f64, sum }
-}
-
-fn median(mut values: Vec<f64>) -> f64 {
-    values.sort_by(f64::total_cmp);
-    values[values.len() / 2]
 }
 
 /// Whether a line was asked for; `cargo bench` adds a flag of its own.

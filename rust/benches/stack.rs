@@ -8,12 +8,24 @@ mod grown;
 
 use card_model::call::{Call, MODEL};
 use common::growth::Geometry;
-use common::{deep, stack, LIBRARY};
+use common::{batch, deep, stack, LIBRARY};
 use grown::Grown;
 
 fn row(what: &str, card: &[u8], call: Call, code: u32) {
     assert_eq!(call.run(&MODEL, &mut card.to_vec()).code, code, "{what}");
     let [library, rust] = [LIBRARY, MODEL].map(|side| stack::of_call(side, card, call));
+    println!("| {what} | {library} | {rust} |");
+}
+
+/// A batch of the posts, each of which is accepted.
+fn batch_row(what: &str, card: &[u8], posts: &[Call]) {
+    let requests = batch::requests_of(posts);
+    let [library, rust] = [LIBRARY, MODEL].map(|side| {
+        let (mut copy, mut answers) = (card.to_vec(), vec![0x5a; posts.len()]);
+        let taken = stack::on_a_thread(|| assert_eq!((side.batch)(&mut copy, &requests, &mut answers), 0));
+        assert!(answers.iter().all(|&answer| answer == 0), "{what}: {answers:?}");
+        taken
+    });
     println!("| {what} | {library} | {rust} |");
 }
 
@@ -40,8 +52,13 @@ fn main() {
     row("post", &grown.card, Call::Post { bib, at, time: 1 }, 0);
     row("post that rewrites", &grown.card, splitting(&grown), 0);
     row("strike", &grown.card, Call::Strike { bib, at }, 0);
+    let posts: Vec<Call> = (0..100).map(|i| Call::Post { bib: 1 + 3 * i, at: at + i, time: 1 }).collect();
+    batch_row("batch of a post", &grown.card, &[Call::Post { bib, at, time: 1 }]);
+    batch_row("batch of 100 posts, some of which rewrite", &grown.card, &posts);
     println!("| digits | {} | {} |", stack::of_digits(LIBRARY), stack::of_digits(MODEL));
     let levels = deep::card(2047, |_| 4, false);
     row("look, 2,047 index levels", &levels, Call::Look { bib: 1, at }, 0);
-    row("post that rewrites 2,048 buckets", &levels, Call::Post { bib: 1, at, time: 1 }, 0);
+    let rewriting = Call::Post { bib: 1, at, time: 1 };
+    row("post that rewrites 2,048 buckets", &levels, rewriting, 0);
+    batch_row("batch of that post", &levels, &[rewriting]);
 }

@@ -1,4 +1,5 @@
 //! A card to measure on: random posts and corrections until half its buckets are used.
+#![allow(dead_code)] // each benchmark takes what it wants of this
 
 use crate::common::bytes::get;
 use crate::common::growth::Geometry;
