@@ -63,6 +63,26 @@ fn stamps_that_run_backwards() {
     assert_eq!(answers(&fresh(16), &asked), [0, 3, 3, 3, 5, 0, 11, 2, 0, 3]);
 }
 
+/// Whatever the first request is answered, the others are answered as after it. The card's largest stamp is 10.
+#[test]
+fn after_any_first_request() {
+    let (_, card) = answered(&fresh(16), &[(1, 1, 10, 5)]);
+    let firsts = [
+        ((9, 1, 100, 0), 11),
+        ((2, 1, 100, 7), 11),
+        ((1, 0, 100, 5), 2),
+        ((1, 2, 10, 5), 3),
+        ((1, 2, 0, 5), 3),
+        ((2, 9, 100, 0), 5),
+    ];
+    for (first, number) in firsts {
+        let asked = [first, (1, 2, 10, 5), (1, 2, 11, 5), (1, 3, 11, 5), (2, 1, 12, 0)];
+        assert_eq!(answers(&card, &asked), [number, 3, 0, 3, 0], "{first:?}");
+    }
+    let asked = [(1, 2, 20, 5), (1, 3, 20, 5), (1, 3, 15, 5), (2, 2, 21, 0), (2, 1, 22, 0), (1, 1, 22, 5)];
+    assert_eq!(answers(&card, &asked), [0, 3, 3, 0, 0, 3]);
+}
+
 /// After the last stamp of all nothing more is accepted.
 #[test]
 fn the_last_stamp_closes_the_card() {
@@ -86,7 +106,12 @@ fn a_card_that_fills_up() {
         (1, 0, 4, 5),
         (2, 1, 4, 1), // a strike with a value
     ];
-    assert_eq!(answers(&fresh(2), &asked), [0, 0, 0, 6, 6, 5, 6, 3, 2, 11]);
+    let (told, full) = answered(&fresh(2), &asked);
+    assert_eq!(told, [0, 0, 0, 6, 6, 5, 6, 3, 2, 11]);
+    // from the full card on, each of them first
+    for i in 3..asked.len() {
+        assert_eq!(answers(&full, &asked[i..]), told[i..], "from {i}");
+    }
 }
 
 /// Document 01's growing card as one batch: two divisions, a new root and then one above two more, each of

@@ -44,13 +44,17 @@ fn a_batch_on_cards_of_ours() {
     assert!(taken <= said("CARD_STACK_OURS"), "a batch with {rewrites:?} takes {taken}");
 }
 
-/// What a batch of two takes on a copy of the card: one that is refused, and the post.
+/// The most that a batch of two takes on a copy of the card: the post, before and behind one that is refused,
+/// since a first request may go another way than the others.
 fn of_batch(card: &[u8], post: Call) -> usize {
-    let requests = batch::requests_of(&[Call::Post { bib: 0, at: 1, time: 1 }, post]);
-    let (mut copy, mut answers) = (card.to_vec(), [0x5a; 2]);
-    let taken = stack::on_a_thread(|| assert_eq!((LIBRARY.batch)(&mut copy, &requests, &mut answers), 0));
-    assert_eq!(answers, [2, 0]);
-    taken
+    let refused = Call::Post { bib: 0, at: 1, time: 1 };
+    let taken = [([post, refused], [0, 2]), ([refused, post], [2, 0])].map(|(calls, expected)| {
+        let (requests, mut copy, mut answers) = (batch::requests_of(&calls), card.to_vec(), [0x5a; 2]);
+        let taken = stack::on_a_thread(|| assert_eq!((LIBRARY.batch)(&mut copy, &requests, &mut answers), 0));
+        assert_eq!(answers, expected);
+        taken
+    });
+    taken.into_iter().max().expect("two ways")
 }
 
 #[test]
