@@ -215,7 +215,8 @@ struct card_answer card_strike(uint8_t *card, size_t len, uint32_t bib, uint32_t
  * Card and answers are left as the same calls, one by one and in this order, would leave and answer
  * them, and so it does not matter where a row of requests is cut into batches. A request that is
  * refused changes no byte of the card and does not stop the batch. What is saved is time: a post
- * by itself reads the whole card for its largest stamp, a batch reads it once for all requests.
+ * by itself reads the whole card for its largest stamp; a batch does so once for all its requests,
+ * or twice where the first of them is refused.
  * The batch itself answers 12 ahead of all else if `requests_len` is no multiple of 16 or if
  * `answers_len` is not the number of requests; then nothing is written, no answer either. Otherwise
  * it answers 0, also where there is no request, and also where every request is refused.

@@ -65,7 +65,8 @@ pub fn strike(card: &mut [u8], bib: u32, at: u32) -> Result<(), Refusal> {
 
 /// Makes many posts and strikes in one call, each of them a sector as [`crate::Request::sector`] gives it.
 /// Card and answers are those that the same calls one by one would leave and give, and a refused request
-/// does not stop the batch; but what a single call has to read off the whole card is read once for all.
+/// does not stop the batch; but the whole card, which each single call reads for its largest stamp, is read
+/// but once or twice for them all.
 ///
 /// There is a byte of `answers` for each request, else the batch is refused as [`Refusal::Unpaired`] and no
 /// byte changes. Each request is answered by itself: as [`Refusal::Layout`], as [`Refusal::NoRequest`] where
