@@ -1,6 +1,6 @@
 //! The card's rules a second time.
 //!
-//! Written from the words of document 01 alone, so that a mistake in the proved library's rules
+//! Written from the words of documents 01 and 02 alone, so that a mistake in the proved library's rules
 //! and a mistake here are not the same mistake. Every call takes every slice of bytes, answers
 //! with the paper's five numbers and leaves the card as the paper says. No call allocates.
 #![forbid(unsafe_code)]
