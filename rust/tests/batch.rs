@@ -9,7 +9,7 @@ use common::growth::{Day, Geometry};
 use common::mutate::damage;
 use common::pair::Tally;
 use common::random::Random;
-use common::{deep, foreign, length, rounds, LIBRARY};
+use common::{deep, foreign, length, rounds, setting, LIBRARY};
 
 /// A card of `buckets` buckets of four sectors, formatted.
 fn fresh(buckets: u32) -> Vec<u8> {
@@ -278,7 +278,8 @@ fn on_cards_of_ours() {
         }
         tally
     });
-    assert!(new_roots > 100, "{new_roots} new roots");
+    // as in `rounds`, little is asked of few calls
+    assert!(new_roots > 100 || setting("CARD_CALLS", 400_000) < 100_000, "{new_roots} new roots");
 }
 
 /// Requests for a card not of our making: the bibs it speaks of and those beside them, stamps mostly above
