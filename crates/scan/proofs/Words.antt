@@ -53,7 +53,7 @@ no-more : (s : List ℕ) → length s ≡ 16 → zeros (drop (12 + 4) s) ≡ tru
 unfolding zeros
 no-more s h = let e : drop 16 s ≡ [] = subst (λ (k : ℕ). drop k s ≡ []) h (drop-length s) in rw e
 
-zeros-words : (s : List ℕ) → length s ≡ 16 → zeros s ≡ eqb (word s 0) 0 & eqb (word s 4) 0 & eqb (word s 8) 0 & eqb (word s 12) 0
+pub zeros-words : (s : List ℕ) → length s ≡ 16 → zeros s ≡ eqb (word s 0) 0 & eqb (word s 4) 0 & eqb (word s 8) 0 & eqb (word s 12) 0
 zeros-words s h =
     zeros-four s (omega arith)
     ∙ ap (λ z. eqb (word s 0) 0 & z) (zeros-from s 4 (omega arith))

@@ -65,6 +65,20 @@ fn names_bucket(n: usize, value: u32) -> bool
     false
 }
 
+// Whether four words are all zero.
+fn no_word(a: u32, b: u32, c: u32, d: u32) -> bool
+    ensures { λ r. ⌜ r ≡ (eqb a 0 & eqb b 0 & eqb c 0 & eqb d 0) ⌝ }
+{
+    if a == 0 {
+        if b == 0 {
+            if c == 0 {
+                return d == 0;
+            }
+        }
+    }
+    false
+}
+
 // What four words of a sector are.
 fn judge(n: usize, head: u32, key: u32, stamp: u32, value: u32) -> Sector
     ensures { λ r. ⌜ r ≡ judged n head key stamp value ⌝ }
@@ -77,14 +91,8 @@ fn judge(n: usize, head: u32, key: u32, stamp: u32, value: u32) -> Sector
             value,
         });
     }
-    if head == 0 {
-        if key == 0 {
-            if stamp == 0 {
-                if value == 0 {
-                    return Sector::Blank;
-                }
-            }
-        }
+    if no_word(head, key, stamp, value) {
+        return Sector::Blank;
     }
     Sector::Damaged
 }
@@ -117,6 +125,19 @@ pub fn at(part: &[u8], n: usize, i: usize) -> Sector
     ensures { λ r. ⌜ r ≡ decode n (sectorAt (now (part .entry)) i) ⌝ }
 {
     decode(bytes(part, i), n)
+}
+
+// Whether sector i of a part is blank. It is not judged: its words are only asked for zeros.
+pub fn blank_at(part: &[u8], i: usize) -> bool
+    requires { ⌜ 16 * i + 16 ≤ length (now part) ⌝ }
+    ensures { λ r. ⌜ r ≡ zeros (sectorAt (now (part .entry)) i) ⌝ }
+{
+    let s = bytes(part, i);
+    let head = read_word(s, 0);
+    let key = read_word(s, 4);
+    let stamp = read_word(s, 8);
+    let value = read_word(s, 12);
+    no_word(head, key, stamp, value)
 }
 
 fn wide(x: u8) -> u32
