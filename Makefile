@@ -1,6 +1,6 @@
 SHELL := /bin/bash
 .SHELLFLAGS := -eu -o pipefail -c
-.PHONY: run test install bench easton
+.PHONY: run test install bench count easton
 
 # Where `make install` puts the library.
 PREFIX ?= /usr/local
@@ -30,6 +30,10 @@ install: $(ARCHIVE)
 # The library against the Rust implementation: single calls, batches, stack.
 bench: $(ARCHIVE)
 	@cd rust && for table in speed batch stack; do cargo bench --offline --bench $$table; done
+
+# The instructions of a look, counted by callgrind: what a change costs, the same on every machine.
+count: $(ARCHIVE)
+	@scripts/count-instructions
 
 # Easton's experiment on the library.
 easton: $(ARCHIVE)
