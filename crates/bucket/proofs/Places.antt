@@ -25,6 +25,15 @@ use Rattle.scan.proofs.Loops.{first-scan}
 use Rattle.scan.proofs.Parts.{sectors-part}
 use Rattle.bucket.specs.Places.{foundAt, keyAt, dataFits, indexFits, isCopy, rank}
 
+-- in a data bucket an entry is taken where it is a copy of x that counts
+pub pick-copy : (x t : ℕ) (best : Found) (e : Entry) → pick false x t best e ≡ if (isCopy x t e) (Hit e) best
+unfolding pick choose same isCopy
+pick-copy x t best e = both (leb (e .stamp) t) (eqb (e .key) x)
+  where
+    both : (a b : Bool) → if a (if b (Hit e) best) best ≡ if (a & b) (Hit e) best
+    both true b = refl
+    both false b = refl
+
 -- sector i holds e
 module _ (n : ℕ) (part : List ℕ) (i hit : ℕ) (e : Entry) (held : decode n (sectorAt part i) ≡ Held e) where
   here : Hit e ≡ foundAt part (i + 1)
@@ -39,14 +48,6 @@ module _ (n : ℕ) (part : List ℕ) (i hit : ℕ) (e : Entry) (held : decode n 
   choice : (b : Bool) → if b (Hit e) (foundAt part hit) ≡ foundAt part (if b (i + 1) hit)
   choice true = here
   choice false = refl
-
-  two : (a b : Bool) → if a (if b (Hit e) (foundAt part hit)) (foundAt part hit) ≡ foundAt part (if (a & b) (i + 1) hit)
-  two true b = choice b
-  two false b = refl
-
-  pub data-place : (x t : ℕ) → pick false x t (foundAt part hit) e ≡ foundAt part (if (isCopy x t e) (i + 1) hit)
-  unfolding pick choose same isCopy
-  data-place x t = two (leb (e .stamp) t) (eqb (e .key) x)
 
   pub log-place : (t : ℕ) → pickRoot t (foundAt part hit) e ≡ foundAt part (if (leb (e .stamp) t) (i + 1) hit)
   unfolding pickRoot

@@ -4,8 +4,9 @@ ghost use Prim.Native.Nat.{_+_, _-_, _*_, _≤_, _<_};
 ghost use lib.ListN.{length, drop};
 ghost use Rattle.rules.specs.Layout.{base};
 ghost use mathlib.Core.Bool.{true, false};
-ghost use Rattle.rules.specs.Sector.{isRoot};
+ghost use Rattle.rules.specs.Sector.{isRoot, decode, sectorAt};
 ghost use Rattle.scan.specs.Scan.{sectors, allBlank, scanIn, pick, pickRoot, search, searchLog};
+ghost use Rattle.scan.specs.Back.{lastFirst, written, holds, sound};
 ghost use Rattle.scan.specs.Look.{partOf, logOf, searchAt};
 ghost use Rattle.bucket.specs.Places.{foundAt, dataFits, indexFits};
 ghost use Rattle.bucket.specs.Shapes.{Shape};
@@ -67,32 +68,79 @@ fn blank_behind(part: &[u8], n: usize, count: usize, i: usize) -> bool
     sector::all_zero(&part[16 * i + 16..])
 }
 
-// The sectors of a data bucket: a run of posts and strikes, no key below the header, and then blanks.
-// The place of the last copy of x is kept, and no entry is carried from turn to turn.
+// How many sectors are left once the blanks at the end are passed over, from the last sector down.
+fn run_end(part: &[u8], n: usize, count: usize) -> usize
+    requires { ⌜ 16 * count ≤ length (now part) ⌝ }
+    ensures { λ r. ⌜ (r ≤ count) × (lastFirst n (now (part .entry)) r ≡ written (lastFirst n (now (part .entry)) count)) ⌝ }
+{
+    let mut end = count;
+    let run = loop {
+        if end == 0 {
+            break 0;
+        }
+        if sector::blank_at(part, end - 1) {
+            end -= 1;
+        } else {
+            break end;
+        }
+    };
+    run
+}
+
+// Whether sector i holds a post or strike, its key not below the header. A blank before a written sector is damage, so it is a no.
+fn fits_at(part: &[u8], n: usize, header: u32, i: usize) -> bool
+    requires { ⌜ 16 * i + 16 ≤ length (now part) ⌝ }
+    ensures { λ r. ⌜ r ≡ holds (dataFits header) (decode n (sectorAt (now (part .entry)) i)) ⌝ }
+{
+    let s = sector::at(part, n, i);
+    let Sector::Held(e) = s else {
+        return false;
+    };
+    picks::data_fits(header, e)
+}
+
+// Whether all sectors before the i-th do. The record is known by then: they are judged, and not compared with the key sought.
+fn sound_before(part: &[u8], n: usize, header: u32, i: usize) -> bool
+    requires { ⌜ 16 * i ≤ length (now part) ⌝ }
+    ensures { λ r. ⌜ r ≡ sound (dataFits header) (lastFirst n (now (part .entry)) i) ⌝ }
+{
+    let mut left = i;
+    let sound = loop {
+        if left == 0 {
+            break true;
+        }
+        if fits_at(part, n, header, left - 1) {
+            left -= 1;
+        } else {
+            break false;
+        }
+    };
+    sound
+}
+
+// The sectors of a data bucket, from the last down: blanks, and then a run of posts and strikes, no key below the header.
+// The first copy of x met so is its last, and decides; damage before it counts all the same.
 fn scan_data(part: &[u8], n: usize, count: usize, header: u32, x: u32, t: u32) -> Found
-    requires { ⌜ (length (now part) ≡ 16 * count) × (count ≤ 4096) ⌝ }
+    requires { ⌜ 16 * count ≤ length (now part) ⌝ }
     ensures { λ r. ⌜ r ≡ scanIn (dataFits header) (pick false x t) (sectors n (now (part .entry)) 0 count) Found.Nothing ⌝ }
 {
-    let mut hit: usize = 0;
-    let mut i: usize = 0;
+    let mut i = run_end(part, n, count);
     let found = loop {
-        if i == count {
-            break entry_at(part, hit);
+        if i == 0 {
+            break Found::Nothing;
         }
-        let s = sector::at(part, n, i);
+        let s = sector::at(part, n, i - 1);
         let Sector::Held(e) = s else {
-            let Sector::Blank = s else {
-                break Found::Damage;
-            };
-            if blank_behind(part, n, count, i) {
-                break entry_at(part, hit);
-            }
             break Found::Damage;
         };
         if picks::data_fits(header, e) {
-            let copy = picks::is_copy(x, t, e);
-            i += 1;
-            hit = picks::chosen(copy, i, hit);
+            i -= 1;
+            if picks::is_copy(x, t, e) {
+                if sound_before(part, n, header, i) {
+                    break Found::Hit(e);
+                }
+                break Found::Damage;
+            }
         } else {
             break Found::Damage;
         }
@@ -100,7 +148,8 @@ fn scan_data(part: &[u8], n: usize, count: usize, header: u32, x: u32, t: u32) -
     found
 }
 
-// The sectors of an index bucket likewise: the largest key not above x and the place of its last copy are kept as one number.
+// The sectors of an index bucket, from the first on: a run of index entries, no key below the header, and then blanks.
+// The largest key not above x and the place of its last copy are kept as one number, and no entry is carried from turn to turn.
 fn scan_index(part: &[u8], n: usize, count: usize, header: u32, x: u32, t: u32) -> Found
     requires { ⌜ (length (now part) ≡ 16 * count) × (count ≤ 32) ⌝ }
     ensures { λ r. ⌜ r ≡ scanIn (indexFits header) (pick true x t) (sectors n (now (part .entry)) 0 count) Found.Nothing ⌝ }
