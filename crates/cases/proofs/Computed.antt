@@ -1,6 +1,6 @@
 -- The checker computes each list from the rules.
 use Rattle.rules.proofs.Opened.{rules}
-use Rattle.scroll.specs.Records.{rollOn, rolled, given, recordsIn, recordsOf}
+use Rattle.scroll.specs.Records.{given, recordsIn, recordsOf}
 use Rattle.cases.specs.Growing.{GrowsAsSaid}
 use Rattle.cases.specs.Session.{SessionAsSaid}
 use Rattle.cases.specs.Rolls.{RollsAsSaid}
@@ -14,5 +14,5 @@ unfolding rules
 session-passes = tt
 
 pub session-rolls : RollsAsSaid
-unfolding rules rolled rollOn given recordsIn recordsOf
+unfolding rules given recordsIn recordsOf
 session-rolls = tt

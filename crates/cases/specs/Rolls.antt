@@ -7,7 +7,11 @@ use Rattle.rules.specs.Bench.{benchCall}
 use Rattle.rules.specs.Calls.{Call, formatCall, postCall, strikeCall}
 use Rattle.rules.proofs.Lines.{same}
 use Rattle.rules.specs.Plain.{_&_}
-use Rattle.scroll.specs.Records.{Roll, rolled, recordsOf}
+use Rattle.rules.specs.Sector.{put}
+use Rattle.rules.specs.Layout.{headBytes}
+use Rattle.rules.specs.Format.{meant}
+use Rattle.rules.specs.Records.{Roll, rolled}
+use Rattle.scroll.specs.Records.{recordsOf}
 
 abbrev pub cardAfter : List ℕ → List Call → List ℕ
 cardAfter card [] = card
@@ -15,6 +19,10 @@ cardAfter card (k ∷ ks) = cardAfter (benchCall card k .card) ks
 
 abbrev pub calls : List Call
 calls = formatCall 16 4 3 4 ∷ postCall 8 10 61230 ∷ postCall 3 20 58900 ∷ postCall 11 30 59990 ∷ postCall 5 40 60000 ∷ strikeCall 8 50 ∷ []
+
+-- the session's card, with 50 for its beginning
+abbrev begunAt50 : List ℕ
+begunAt50 = put (cardAfter [] calls) 0 (headBytes (meant 16 4 3 4) 50)
 
 abbrev pub numbersOf : List Entry → List ℕ
 numbersOf [] = []
@@ -30,4 +38,6 @@ RollsAsSaid = T
     & same (numbers (rolled (cardAfter [] calls) 50 9 3)) (0 ∷ 5 ∷ 40 ∷ 60000 ∷ 11 ∷ 30 ∷ 59990 ∷ [])
     & same (numbers (rolled (cardAfter [] calls) 50 2 0)) (0 ∷ 3 ∷ 20 ∷ 58900 ∷ 5 ∷ 40 ∷ 60000 ∷ [])
     & same (numbers (recordsOf (cardAfter [] calls) 50 0 0)) (0 ∷ [])
-    & same (numbers (recordsOf [] 50 0 0)) (1 ∷ []))
+    & same (numbers (recordsOf [] 50 0 0)) (1 ∷ [])
+    & same (numbers (recordsOf begunAt50 49 0 0)) (13 ∷ [])
+    & same (numbers (recordsOf begunAt50 50 1 3)) (0 ∷ 5 ∷ 40 ∷ 60000 ∷ []))

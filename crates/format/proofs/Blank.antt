@@ -4,7 +4,7 @@ use mathlib.Core.Bool.{true, false}
 use mathlib.Core.Option.{some}
 use mathlib.Core.List.{List, [], _∷_}
 use Prim.Native.Nat.{ℕ, zero, suc, _+_, _-_, _*_, _≤_}
-use native.Mathlib.Nat.{mul-add, mul-le-mul-right, mul-zero, mul-one}
+use native.Mathlib.Nat.{mul-add, mul-le-mul-right, mul-one}
 use native.Mathlib.Omega.{arith}
 use lib.Dec.{eqb}
 use lib.ListN.{length}
@@ -23,7 +23,7 @@ use Rattle.laws.proofs.Codec.{length-encode}
 use Rattle.laws.proofs.Zeros.{zero-sector}
 use Rattle.laws.proofs.Used.{run-blank}
 use Rattle.laws.proofs.Buckets.{raw}
-use Rattle.laws.proofs.Heads.{Lim, limits-hold, head-length}
+use Rattle.laws.proofs.Heads.{Lim, limits-hold, first-base, head-length}
 use Rattle.climb.proofs.Laying.{into-puts}
 
 module _ (h : Head) (card : List ℕ) (li : limits h ≡ true) (size : length card ≡ sizeOf h) (zs : zeros card ≡ true) where
@@ -49,7 +49,7 @@ module _ (h : Head) (card : List ℕ) (li : limits h ≡ true) (size : length ca
   indexed = put rooted (1 + h .n) (encode (indexEntry 0 0 2))
 
   pub long-headed : length headed ≡ length card
-  long-headed = length-put card 0 (headBytes h 0) (head-length h) (let e = enough in omega arith)
+  long-headed = length-put card 0 (headBytes h 0) (head-length h 0) (let e = enough in omega arith)
 
   pub long-rooted : length rooted ≡ length card
   long-rooted = length-put headed 1 (encode (rootEntry 0 1)) (length-encode (rootEntry 0 1)) (let e = enough in let l = long-headed in let k = lim .m4 in omega arith) ∙ long-headed
@@ -66,19 +66,15 @@ module _ (h : Head) (card : List ℕ) (li : limits h ≡ true) (size : length ca
       let k = lim .m4 in
       ap zeros
       (sector-put-other headed 1 j (encode (rootEntry 0 1)) (length-encode (rootEntry 0 1)) (omega arith) (λ (q : j ≡ 1). omega arith)
-      ∙ sector-put-other card 0 j (headBytes h 0) (head-length h) (omega arith) (λ (q : j ≡ 0). omega arith))
+      ∙ sector-put-other card 0 j (headBytes h 0) (head-length h 0) (omega arith) (λ (q : j ≡ 0). omega arith))
       ∙ zero-sector card j zs
-
-  bucket-one : base h 1 ≡ 1 + h .n
-  unfolding base
-  bucket-one = let z : h .m * (1 - 1) ≡ 0 = mul-zero (h .m) in omega arith
 
   bucket-two : base h 2 ≡ 1 + h .n + h .m
   unfolding base
   bucket-two = let z : h .m * (2 - 1) ≡ h .m = mul-one (h .m) in omega arith
 
   first-blank : raw h rooted 1 ≡ some []
-  first-blank = run-blank (h .n) rooted (base h 1) (h .m) (λ j p q. front-blank j (let b = bucket-one in let n = lim .n2 in omega arith))
+  first-blank = run-blank (h .n) rooted (base h 1) (h .m) (λ j p q. front-blank j (let b = first-base h in let n = lim .n2 in omega arith))
 
   second-blank : raw h indexed 2 ≡ some []
   second-blank =
@@ -100,7 +96,7 @@ module _ (h : Head) (card : List ℕ) (li : limits h ≡ true) (size : length ca
   pub formatted-is : formatted h card ≡ put indexed (1 + h .n + h .m) (encode dummy)
   unfolding formatted
   formatted-is =
-      ap (into h 2 (dummy ∷ [])) (into-first rooted 1 (1 + h .n) (indexEntry 0 0 2) first-blank bucket-one)
+      ap (into h 2 (dummy ∷ [])) (into-first rooted 1 (1 + h .n) (indexEntry 0 0 2) first-blank (first-base h))
       ∙ into-first indexed 2 (1 + h .n + h .m) dummy second-blank bucket-two
 
 pub or-else-some : (x d : ℕ) → (x ≡ 0 → ⊥) → x ≡ orElse x d

@@ -21,7 +21,7 @@ fn or_else(x: usize, other: usize) -> usize
 }
 
 // The geometry that the numbers mean: 0 stands for the defaults.
-fn meant(buckets: u32, sectors: u32, td: u32, ti: u32) -> Head
+pub fn meant(buckets: u32, sectors: u32, td: u32, ti: u32) -> Head
     ensures { λ r. ⌜ r ≡ meant buckets sectors td ti ⌝ }
 {
     let m = sectors as usize;
@@ -58,7 +58,7 @@ fn lay_out(card: &mut [u8], head: Head)
         stamp: 0,
         value: 0,
     };
-    writer::write_head(card, head);
+    writer::write_head(card, head, 0);
     writer::write_entry(card, 1, root);
     writer::write_entry(card, first, index);
     writer::write_entry(card, second, dummy);

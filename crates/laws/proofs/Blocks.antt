@@ -91,7 +91,7 @@ fill-run n card i (suc c) es (e ∷ new) good lies fits q =
     let oth = fill-other card1 (blanks card1 (suc i) c) new i
     (blanks-each (Lies card1) card1 (suc i) c (λ j p r y. omega arith)) (blanks-each (λ k. i ≡ k → ⊥) card1 (suc i) c (λ j p r y u. omega arith)) in
     let hd : decode n (sectorAt (fill card1 (blanks card1 (suc i) c) new) i) ≡ Held e
-    = ap (decode n) (oth ∙ sector-put-same card i (encode e) (length-encode e) (omega arith)) ∙ decode-encode n e (good .0 .0) (good .0 .1) in
+    = ap (decode n) (oth ∙ sector-put-same card i (encode e) (length-encode e) (omega arith)) ∙ decode-encode n e (good .0 .1) in
     rw (z, sym be, b .1) (ap₂ onto hd ih))
     (λ (b : (x : Entry) × (xs : List Entry) × (decode n (sectorAt card i) ≡ Held x) × (es ≡ x ∷ xs) × (run n card (suc i) c ≡ some xs)).
     let z = blanks-no card i c (held-zeros n (sectorAt card i) (b .0) (b .2)) in

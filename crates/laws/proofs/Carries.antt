@@ -12,7 +12,7 @@ use borrow.Author.Tests.{eq-eqb, eqb-true, leb-true, ltb-true, ltb-false}
 use Rattle.rules.specs.declared.Entry.{Entry}
 use Rattle.rules.specs.declared.Head.{Head}
 use Rattle.rules.specs.Bucket.{blanks, blanksOf, bucket, logBlanks, unwritten, soundBucket}
-use Rattle.rules.specs.Layout.{base, headFields, headIn, headOf, limits, sizeOf}
+use Rattle.rules.specs.Layout.{base, beginning, headFields, headIn, headOf, limits, sizeOf}
 use Rattle.rules.specs.Plain.{_&_, _or_, if, zeros}
 use Rattle.rules.specs.Rewrite.{Rise, fill, into, kept, keyOf, lastCopies, limitOf, oneBucket, pair, renew, twoBuckets}
 use Rattle.rules.specs.Sector.{isIndex, rootEntry, sectorAt, word}
@@ -407,13 +407,22 @@ bytes-after h card hq by e asks new q =
     let above = inv .1 in
     planned-next h card hq by e (asks-fine (h .n) e asks (inv .0) (omega arith)) (e .key) (pw .0) (pw .1) new (inv .2) .2
 
--- the head stays
-pub head-after : (h : Head) (card : List ℕ) → headOf card ≡ some h → Bytes card → (e : Entry) → Asks e → (new : List ℕ) → plan card e ≡ accept new → headOf new ≡ some h
-head-after h card hq by e asks new q =
-    let puts = call-puts h card hq by e asks new q in
-    let size = head-facts card h hq .1 in
-    let size2 = chain-size h (λ d. d .stamp ≤ e .stamp) card new size puts in
-    ⊎-elim
-    (λ (same : sectorAt new 0 ≡ sectorAt card 0). head-same card new same (sym size2 ∙ size) ∙ hq)
-    (λ (x : Changed h (λ d. d .stamp ≤ e .stamp) card new 0). absurd (head-written card h hq (x .was)))
-    (puts-sector h (λ d. d .stamp ≤ e .stamp) card (puts .0) new size (puts .1) 0)
+-- the first sector stays, and with it the head and the beginning
+module _ (h : Head) (card : List ℕ) (hq : headOf card ≡ some h) (by : Bytes card) (e : Entry) (asks : Asks e) (new : List ℕ) (q : plan card e ≡ accept new) where
+  first-stays : sectorAt new 0 ≡ sectorAt card 0
+  first-stays =
+      let puts = call-puts h card hq by e asks new q in
+      ⊎-elim
+      (λ (same : sectorAt new 0 ≡ sectorAt card 0). same)
+      (λ (x : Changed h (λ d. d .stamp ≤ e .stamp) card new 0). absurd (head-written card h hq (x .was)))
+      (puts-sector h (λ d. d .stamp ≤ e .stamp) card (puts .0) new (head-facts card h hq .1) (puts .1) 0)
+
+  pub head-after : headOf new ≡ some h
+  head-after =
+      let size = head-facts card h hq .1 in
+      let size2 = chain-size h (λ d. d .stamp ≤ e .stamp) card new size (call-puts h card hq by e asks new q) in
+      head-same card new first-stays (sym size2 ∙ size) ∙ hq
+
+  pub beginning-after : beginning new ≡ beginning card
+  unfolding beginning
+  beginning-after = ap (λ (s : List ℕ). word s 8) first-stays

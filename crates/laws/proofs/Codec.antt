@@ -12,8 +12,9 @@ use Rattle.rules.specs.Plain.{if, _&_, zeros}
 use Rattle.rules.specs.Sector.{word, le4, encode, decode, legal, fields}
 use Rattle.laws.proofs.Tools.{false-true, bool-cases}
 
-digits4 : (x : ℕ) → x < 4294967296 → x % 256 + 256 * (x / 256 % 256) + 65536 * (x / 65536 % 256) + 16777216 * (x / 16777216) ≡ x
-digits4 x h = omega arith
+-- the four places of a number, the last of which may be any
+pub digits4 : (x : ℕ) → x % 256 + 256 * (x / 256 % 256) + 65536 * (x / 65536 % 256) + 16777216 * (x / 16777216) ≡ x
+digits4 x = omega arith
 
 pub length-encode : (e : Entry) → length (encode e) ≡ 16
 unfolding encode le4
@@ -25,9 +26,13 @@ pub record Fits (e : Entry) : Type 0 where
   pub stamp : e .stamp < 4294967296
   pub value : e .value < 4294967296
 
-pub fields-encode : (e : Entry) → Fits e → fields (encode e) ≡ e
+pub fields-encode : (e : Entry) → fields (encode e) ≡ e
 unfolding encode le4 fields word
-fields-encode e f = λ i. record { kind = e .kind; key = digits4 (e .key) (f .key) i; stamp = digits4 (e .stamp) (f .stamp) i; value = digits4 (e .value) (f .value) i }
+fields-encode e = λ i. record { kind = e .kind; key = digits4 (e .key) i; stamp = digits4 (e .stamp) i; value = digits4 (e .value) i }
+
+pub key-encode : (e : Entry) → word (encode e) 4 ≡ e .key
+unfolding encode le4 word
+key-encode e = digits4 (e .key)
 
 -- no row of the table has kind 0
 written : (n : ℕ) (e : Entry) → legal n e ≡ true → (xs : List ℕ) → zeros (e .kind ∷ xs) ≡ false
@@ -46,9 +51,9 @@ z : (e : Entry) → zeros (take 3 (drop 1 (encode e))) ≡ true
 unfolding encode zeros
 z e = refl
 
-pub decode-encode : (n : ℕ) (e : Entry) → Fits e → legal n e ≡ true → decode n (encode e) ≡ Held e
+pub decode-encode : (n : ℕ) (e : Entry) → legal n e ≡ true → decode n (encode e) ≡ Held e
 unfolding decode
-decode-encode n e f l = simp (fields-encode e f, l, w n e l, z e)
+decode-encode n e l = simp (fields-encode e, l, w n e l, z e)
 
 -- a blank sector is the one of zeros
 zeros-blank : (n : ℕ) (s : List ℕ) → zeros s ≡ true → decode n s ≡ Blank

@@ -41,7 +41,7 @@ unfolding legal
 dummy-fine n = (record { kind = omega arith; key = omega arith; stamp = omega arith; value = omega arith }, refl)
 
 pub fine-says : (n : ℕ) (d : Entry) → Fine n d → zeros (encode d) ≡ false
-fine-says n d f = held-zeros n (encode d) d (decode-encode n d (f .0) (f .1))
+fine-says n d f = held-zeros n (encode d) d (decode-encode n d (f .1))
 
 pub root-says : (s b : ℕ) → zeros (encode (rootEntry s b)) ≡ false
 unfolding zeros encode

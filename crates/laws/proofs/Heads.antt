@@ -3,8 +3,8 @@ use mathlib.Core.Path.{_≡_, sym, subst, ap₂, refl}
 use mathlib.Core.Bool.{true, false}
 use mathlib.Core.Option.{some}
 use mathlib.Core.List.{List}
-use Prim.Native.Nat.{ℕ, suc, _+_, _*_, _-_, _≤_, _%_, _/_}
-use native.Mathlib.Nat.{mul-le-mul, mul-le-mul-left, mul-add, mul-suc, mul-comm}
+use Prim.Native.Nat.{ℕ, suc, _+_, _*_, _-_, _≤_}
+use native.Mathlib.Nat.{mul-le-mul, mul-le-mul-left, mul-add, mul-suc, mul-comm, mul-zero}
 use native.Mathlib.Omega.{arith}
 use lib.ListN.{length, getD}
 use lib.Dec.{leb, eqb}
@@ -14,6 +14,7 @@ use Rattle.rules.specs.Plain.{_&_, within, zeros}
 use Rattle.rules.specs.Sector.{sectorAt, word, le4}
 use Rattle.rules.specs.Layout.{limits, sizeOf, headFields, headIn, headOf, base, headBytes}
 use Rattle.laws.proofs.Tools.{and-true, guard-true}
+use Rattle.laws.proofs.Codec.{digits4}
 use Rattle.laws.proofs.Zeros.{zeros-get}
 
 pub record Lim (h : Head) : Type 0 where
@@ -52,13 +53,11 @@ head-facts card h q =
     let s = sectorAt card 0 in
     let f = headFields s in
     let k = eqb (getD s 0 0) 6 in
-    let z = eqb (word s 8) 0 in
     let y = eqb (word s 12) 0 in
     let l = eqb (length card) (sizeOf f) in
-    let g = guard-true (k & z & y & limits f & l) f h q in
-    let a = and-true k (z & y & limits f & l) (g .0) in
-    let b = and-true z (y & limits f & l) (a .1) in
-    let c = and-true y (limits f & l) (b .1) in
+    let g = guard-true (k & y & limits f & l) f h q in
+    let a = and-true k (y & limits f & l) (g .0) in
+    let c = and-true y (limits f & l) (a .1) in
     let d = and-true (limits f) l (c .1) in
     subst (λ (x : Head). Lim x × (sizeOf x ≡ length card)) (g .1) (limits-hold f (d .0), sym (eqb-true (length card) (sizeOf f) (d .1)))
 
@@ -68,13 +67,13 @@ unfolding headOf headIn
 head-written card h q z =
     let f = sectorAt card 0 in
     let six = eqb (getD f 0 0) 6 in
-    let rest = eqb (word f 8) 0 & eqb (word f 12) 0 & limits (headFields f) & eqb (length card) (sizeOf (headFields f)) in
+    let rest = eqb (word f 12) 0 & limits (headFields f) & eqb (length card) (sizeOf (headFields f)) in
     let t = guard-true (six & rest) (headFields f) h q in
     let is = eqb-true (getD f 0 0) 6 (and-true six rest (t .0) .0) in
     let none-there = zeros-get f 0 z in
     omega arith
 
--- bucket b, from 1 to n, lies on a card of the right length; and so does the log
+-- bucket b, from 1 to n, lies on a card of the right length; and so do the log and the head
 pub bucket-fits : (h : Head) (card : List ℕ) (b : ℕ) → sizeOf h ≡ length card → 1 ≤ b → b ≤ h .n → 16 * (base h b + h .m) ≤ length card
 unfolding sizeOf base
 bucket-fits h card b long one most =
@@ -90,30 +89,37 @@ pub log-fits : (h : Head) (card : List ℕ) → sizeOf h ≡ length card → 16 
 unfolding sizeOf
 log-fits h card long = let more : h .n * (h .m + 1) ≡ h .n * h .m + h .n * 1 = mul-add (h .n) (h .m) 1 in omega arith
 
+pub head-fits : (card : List ℕ) (h : Head) → headOf card ≡ some h → 16 ≤ length card
+head-fits card h q = let all = log-fits h card (head-facts card h q .1) in omega arith
+
 -- the head is read from sector 0 and the length alone
 pub head-same : (card card' : List ℕ) → sectorAt card' 0 ≡ sectorAt card 0 → length card' ≡ length card → headOf card' ≡ headOf card
 unfolding headOf
 head-same card card' s l = ap₂ headIn s l
 
-head-digits : (x : ℕ) → x ≤ 4096 → x % 256 + 256 * (x / 256 % 256) + 65536 * (x / 65536 % 256) + 16777216 * (x / 16777216) ≡ x
-head-digits x h = omega arith
-
--- the head's bytes are read back
-pub head-read : (h : Head) (len : ℕ) → limits h ≡ true → h .n ≤ 4096 → len ≡ sizeOf h → headIn (headBytes h 0) len ≡ some h
+-- the head's bytes are read back, and the beginning
+pub head-read : (h : Head) (begin len : ℕ) → limits h ≡ true → len ≡ sizeOf h → headIn (headBytes h begin) len ≡ some h
 unfolding headIn headBytes headFields word le4 zeros
-head-read h len l n4 e =
-    let f : headFields (headBytes h 0) ≡ h = λ i. record { m = h .m; td = h .td; ti = h .ti; n = head-digits (h .n) n4 i } in
+head-read h begin len l e =
+    let f : headFields (headBytes h begin) ≡ h = λ i. record { m = h .m; td = h .td; ti = h .ti; n = digits4 (h .n) i } in
     rw (f, l, eq-eqb len (sizeOf h) e)
 
--- format
-pub head-length : (h : Head) → length (headBytes h 0) ≡ 16
+pub head-begins : (h : Head) (begin : ℕ) → word (headBytes h begin) 8 ≡ begin
+unfolding headBytes word le4
+head-begins h begin = digits4 begin
+
+pub head-length : (h : Head) (begin : ℕ) → length (headBytes h begin) ≡ 16
 unfolding headBytes le4
-head-length h = refl
+head-length h begin = refl
 
-pub head-says : (h : Head) → zeros (headBytes h 0) ≡ false
+pub head-says : (h : Head) (begin : ℕ) → zeros (headBytes h begin) ≡ false
 unfolding headBytes zeros
-head-says h = refl
+head-says h begin = refl
 
--- a bucket's first sector is a small number
+-- the first bucket's first sector; any bucket's is a small number
+pub first-base : (h : Head) → base h 1 ≡ 1 + h .n
+unfolding base
+first-base h = let z : h .m * (1 - 1) ≡ 0 = mul-zero (h .m) in omega arith
+
 pub bucket-low : (m n b : ℕ) → m ≤ 32 → n ≤ 4096 → b ≤ n → m * (b - 1) ≤ 131072
 bucket-low m n b p q r = mul-le-mul {n₂ = 32} {m₂ = 4096} p (omega arith)

@@ -48,7 +48,7 @@ well-kinds e (inr k) = ⊎-elim (λ (p : eqb (e .kind) 1 ≡ true). rw p) (λ (p
 
 well-encode : (e : Entry) → Asks e → wellAsked (encode e) ≡ true
 unfolding wellAsked Asks isPost
-well-encode e a = rw (fields-encode e (a .0)) (true-and (zero-bytes e) (well-kinds e (a .1)))
+well-encode e a = rw (fields-encode e) (true-and (zero-bytes e) (well-kinds e (a .1)))
 
 -- 1, 11, then the entry's plan
 pub no-card : (card r : List ℕ) → headOf card ≡ none → request card r ≡ refuse 1
@@ -70,4 +70,4 @@ request-encode card e a = go (headOf card) refl
   where
     go : (o : Option Head) → headOf card ≡ o → request card (encode e) ≡ planFor card e (headOf card)
     go none q = no-card card (encode e) q ∙ sym (ap (planFor card e) q)
-    go (some h) q = asked card (encode e) h q (well-encode e a) ∙ ap (plan card) (fields-encode e (a .0))
+    go (some h) q = asked card (encode e) h q (well-encode e a) ∙ ap (plan card) (fields-encode e)

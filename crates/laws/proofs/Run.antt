@@ -15,7 +15,7 @@ use Rattle.rules.specs.Plain.{zeros}
 use Rattle.rules.specs.Sector.{sectorAt, put, encode, decode, legal}
 use Rattle.laws.proofs.Tools.{none-some}
 use Rattle.laws.proofs.Sectors.{sector-put-same, sector-put-other}
-use Rattle.laws.proofs.Codec.{Fits, decode-encode, length-encode}
+use Rattle.laws.proofs.Codec.{decode-encode, length-encode}
 
 -- two cards agree on the c sectors from i
 abbrev pub Agree : List ℕ → List ℕ → ℕ → ℕ → Type 0
@@ -52,12 +52,12 @@ onto-inv (Held x) (some xs) es e = inr (x, xs, refl, cc, refl)
 onto-inv Damaged r es e = absurd (none-some e)
 
 -- e, put at sector k, is read there
-pub decode-put : (n : ℕ) (card : List ℕ) (e : Entry) → Fits e → legal n e ≡ true → (k i : ℕ) → k ≡ i → 16 * k + 16 ≤ length card
+pub decode-put : (n : ℕ) (card : List ℕ) (e : Entry) → legal n e ≡ true → (k i : ℕ) → k ≡ i → 16 * k + 16 ≤ length card
     → decode n (sectorAt (put card k (encode e)) i) ≡ Held e
-decode-put n card e f l k i ki room =
+decode-put n card e l k i ki room =
     ap (λ j. decode n (sectorAt (put card k (encode e)) j)) (sym ki)
     ∙ ap (decode n) (sector-put-same card k (encode e) (length-encode e) room)
-    ∙ decode-encode n e f l
+    ∙ decode-encode n e l
 
 -- and other runs of sectors are as they were
 pub agree-put : (card : List ℕ) (e : Entry) (k i c : ℕ) → 16 * k + 16 ≤ length card → (k < i) ⊎ (i + c ≤ k)

@@ -63,7 +63,7 @@ chain-top h s card new size ch old =
     (λ (x : Changed h (λ d. d .stamp ≤ s) card new j).
     let f = x .area lo in
     let le = f .1 in
-    let is = held-stamp (h .n) (sectorAt new j) (x .entry) (ap (decode (h .n)) (x .here) ∙ decode-encode (h .n) (x .entry) (f .0 .0) (f .0 .1)) in
+    let is = held-stamp (h .n) (sectorAt new j) (x .entry) (ap (decode (h .n)) (x .here) ∙ decode-encode (h .n) (x .entry) (f .0 .1)) in
     omega arith)
     (puts-sector h (λ d. d .stamp ≤ s) card (ch .0) new size (ch .1) j))
 

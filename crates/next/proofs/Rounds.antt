@@ -5,13 +5,14 @@ use mathlib.Core.Option.{none, some}
 use mathlib.Core.List.{List, [], _∷_}
 use Prim.Native.Nat.{ℕ, suc, _-_, _≤_, _<_}
 use native.Mathlib.Omega.{arith}
+use borrow.Author.Tests.{lt-ltb, le-ltb}
 use types.Run.{OneOf}
 use denote.Enum.Declared.{tagOf}
 use Rattle.rules.specs.declared.Entry.{Entry}
 use Rattle.rules.specs.declared.Head.{Head}
 use Rattle.rules.specs.declared.Answer.{Answer}
 use Rattle.rules.specs.Answers.{refused, ended}
-use Rattle.rules.specs.Layout.{headOf}
+use Rattle.rules.specs.Layout.{headOf, beginning}
 use Rattle.rules.specs.Next.{nextIn, next}
 use Rattle.scan.specs.declared.Found.{Found}
 use Rattle.scan.specs.declared.Found.the-variants.{Damage, Nothing, Hit}
@@ -64,10 +65,14 @@ pub next-broken : (card : List ℕ) (k t : ℕ) → headOf card ≡ none → ref
 unfolding next nextIn
 next-broken card k t q = rw q
 
-module _ (card : List ℕ) (k t : ℕ) (h : Head) (q : headOf card ≡ some h) where
+pub next-early : (card : List ℕ) (k t : ℕ) (h : Head) → headOf card ≡ some h → t < beginning card → refused 13 ≡ next card k t
+unfolding next nextIn
+next-early card k t h q lt = rw (q, lt-ltb t (beginning card) lt)
+
+module _ (card : List ℕ) (k t : ℕ) (h : Head) (q : headOf card ≡ some h) (le : beginning card ≤ t) where
   pub next-rounds : rounds h card k t 4294967296 k ≡ next card k t
   unfolding nextScan nextScanIn
-  next-rounds = rw q at (next-scan card k t)
+  next-rounds = rw (q, le-ltb t (beginning card) le) at (next-scan card k t)
 
   pub next-lost : (f : Found) → f ≡ searchLog t (sectors (h .n) card 1 (h .n)) → OneOf (0 ∷ 1 ∷ []) (tagOf the-type f) → refused 4 ≡ next card k t
   unfolding leg after

@@ -128,6 +128,9 @@ pub fn next(card: &[u8], bib: u32, at: u32) -> Answer
     let Layout::Sound(head) = layout else {
         return walk::refusal(1);
     };
+    if at < walk::head::beginning(card) {
+        return walk::refusal(13);
+    }
     let found = bucket::find_root(card, head, at);
     let Found::Hit(root) = found else {
         return walk::refusal(4);

@@ -8,7 +8,7 @@ use lib.ListN.{length}
 use native.Mathlib.Omega.{arith}
 use Rattle.rules.specs.declared.Entry.{Entry}
 use Rattle.rules.specs.declared.Head.{Head}
-use Rattle.rules.specs.Layout.{headOf, sizeOf}
+use Rattle.rules.specs.Layout.{headOf, beginning, sizeOf}
 use Rattle.rules.specs.Walk.{Visit, standsOn, dataOf, walk, left}
 use Rattle.rules.specs.Next.{next}
 use Rattle.rules.specs.Look.{lookOn, lookIn, look}
@@ -100,11 +100,11 @@ replay h c g begin s ke t le (e ∷ es) d q =
     (c, subst (λ z. Since c z c) (sym (left-past t (e ∷ es) past)) refl, late-walks h c g begin s ke t le (e ∷ es) d q past))
     (le-or-lt (e .stamp) t)
 
-look-alike : (h : Head) (c d : List ℕ) → headOf c ≡ some h → headOf d ≡ some h → (t x : ℕ) (p q : List Visit) → walk h c t x ≡ some p
+look-alike : (h : Head) (c d : List ℕ) → headOf c ≡ some h → headOf d ≡ some h → beginning c ≡ beginning d → (t x : ℕ) (p q : List Visit) → walk h c t x ≡ some p
     → walk h d t x ≡ some q
     → length p ≡ length q → left t (dataOf p) ≡ left t (dataOf q) → look c x t ≡ look d x t
 unfolding look lookIn lookOn standsOn
-look-alike h c d hc hd t x p q wp wq l e = rw (hc, hd, wp, wq, l, e)
+look-alike h c d hc hd begins t x p q wp wq l e = rw (hc, hd, begins, wp, wq, l, e)
 
 -- one beginning, two histories that agree up to t
 looks-alike : (h : Head) (c : List ℕ) (g : ℕ → ℕ → Option Entry) (begin s : ℕ) → Keeps h c g begin s → (t : ℕ) → begin ≤ t
@@ -116,7 +116,9 @@ looks-alike h c g begin s ke t le es fs d b p q agree x lt =
     let u = one .2 x lt in
     let v = two .2 x lt in
     let meet : u .0 ≡ v .0 = some-inj (sym (u .2) ∙ ap (λ z. walk h z t x) same ∙ v .2) in
-    look-alike h d b (since-keeps h c g begin s ke es d p .0 .state .head) (since-keeps h c g begin s ke fs b q .0 .state .head) t x (u .1) (v .1) (u .3) (v .3)
+    let kd = since-keeps h c g begin s ke es d p .0 in
+    let kb = since-keeps h c g begin s ke fs b q .0 in
+    look-alike h d b (kd .state .head) (kb .state .head) (kd .begins ∙ sym (kb .begins)) t x (u .1) (v .1) (u .3) (v .3)
     (sym (alike-length t (u .0) (u .1) (u .4)) ∙ ap length meet ∙ alike-length t (v .0) (v .1) (v .4))
     (sym (alike-data t (u .0) (u .1) (u .4)) ∙ ap (λ z. left t (dataOf z)) meet ∙ alike-data t (v .0) (v .1) (v .4))
 

@@ -96,10 +96,10 @@ formatted-left h card l size z =
     let head = headBytes h 0 in
     let root = rootEntry 0 1 in
     let c1 = put card 0 head in
-    let l1 = length-put card 0 head (head-length h) (omega arith) in
+    let l1 = length-put card 0 head (head-length h 0) (omega arith) in
     let c2 = put c1 1 (encode root) in
     let l2 = length-put c1 1 (encode root) (length-encode root) (omega arith) in
-    let one = sector-put-other card 0 1 head (head-length h) (omega arith) (λ e. omega arith) in
+    let one = sector-put-other card 0 1 head (head-length h 0) (omega arith) (λ e. omega arith) in
     let size2 = sym size ∙ sym l1 ∙ sym l2 in
     let c4 = into h 2 (dummy ∷ []) (into h 1 (indexEntry 0 0 2 ∷ []) c2) in
     let rest = format-chain h c2 n2 size2 in (
@@ -107,8 +107,8 @@ formatted-left h card l size z =
       (
         head,
         zeros-sixteen (sectorAt card 0) (zero-sector card 0 z) (sector-length card 0 (omega arith)),
-        head-length h,
-        head-says h,
+        head-length h 0,
+        head-says h 0,
         (
           encode root,
           zeros-sixteen (sectorAt c1 1) (ap zeros one ∙ zero-sector card 1 z) (sector-length c1 1 (omega arith)),

@@ -5,15 +5,16 @@ use Prim.Native.Nat.{ℕ, _/_}
 use mathlib.Core.Option.{Option, none, some}
 use mathlib.Core.Bool.{Bool, true, false}
 use lib.ListN.{length}
-use lib.Dec.{eqb}
+use lib.Dec.{ltb, eqb}
 use borrow.Author.Tests.{eq-eqb, eqb-true}
 use Rattle.rules.specs.declared.Head.{Head}
-use Rattle.rules.specs.Layout.{headOf}
+use Rattle.rules.specs.Layout.{headOf, beginning}
 use Rattle.rules.specs.Plain.{if}
+use Rattle.rules.specs.Records.{Roll, roll, rolled}
 use Rattle.writer.specs.Rows.{puts}
 use Rattle.scroll.specs.declared.Tally.{Tally}
 use Rattle.scroll.specs.declared.Scroll.{Scroll}
-use Rattle.scroll.specs.Records.{Roll, roll, rolled, given, recordsIn, recordsOf}
+use Rattle.scroll.specs.Records.{given, recordsIn, recordsOf}
 use Rattle.scroll.specs.Scroll.{lastAfter, after, stepOf}
 use Rattle.promises.specs.Promises.{RecordsAreSettled, ScrollIsSettled, ScrollSaysAgain}
 
@@ -31,8 +32,9 @@ given-bare r = one (eqb (r .code) 0) refl
 
 in-bare : (card : List ℕ) (at c bib : ℕ) (o : Option Head) → Bare (recordsIn card at c bib o)
 unfolding recordsIn
-in-bare card at c bib none n = refl
-in-bare card at c bib (some h) n = given-bare (rolled card at c bib) n
+in-bare card at c bib none = λ n. refl
+in-bare card at c bib (some h) =
+    elim (ltb at (beginning card)) as (λ b. Bare (if b (roll 13 []) (given (rolled card at c bib)))) [ true ↦ λ n. refl | false ↦ given-bare (rolled card at c bib) ]
 
 records-bare : (card : List ℕ) (at c bib : ℕ) → Bare (recordsOf card at c bib)
 unfolding recordsOf

@@ -1,15 +1,15 @@
 -- A call's outcome is settled; refused, it leaves the card, and gives zeros beside its number.
 use mathlib.Core.Option.{Option, none, some}
-use mathlib.Core.Bool.{true, false}
+use mathlib.Core.Bool.{Bool, true, false}
 use Prim.Native.Nat.{ℕ, zero, suc}
 use mathlib.Core.Path.{refl, sym, _∙_, _≡_}
 use mathlib.Core.List.{List}
 use lib.ListN.{length}
-use lib.Dec.{eqb}
+use lib.Dec.{ltb, eqb}
 use Rattle.rules.specs.declared.Entry.{Entry}
 use Rattle.rules.specs.declared.Head.{Head}
 use Rattle.rules.specs.declared.Answer.{Answer}
-use Rattle.rules.specs.Layout.{headOf}
+use Rattle.rules.specs.Layout.{headOf, beginning}
 use Rattle.rules.specs.Walk.{Visit, standsOn, dataOf, walk, left}
 use Rattle.rules.specs.Write.{Plan, planCard, planAnswer, post, strike, refuse, accept}
 use Rattle.rules.specs.Next.{standingAbove, hopOr, hopTo, nextFrom, keyAbove, nextIn, next, hop, hopping, Hop}
@@ -52,11 +52,15 @@ unfolding lookOn
 lookOn-bare bib t none = bare-refused 4
 lookOn-bare bib t (some p) = sheet-bare bib (length p) (standsOn t bib p)
 
+bare-if : (b : Bool) (x y : Answer) → Bare x → Bare y → Bare (if b x y)
+bare-if true x y p q = p
+bare-if false x y p q = q
+
 look-bare : (bib t : ℕ) (card : List ℕ) (o : Option Head) → Bare (lookIn bib t card o)
 unfolding lookIn
 look-bare bib t card none = bare-refused 1
 look-bare bib t card (some h) =
-    elim (eqb bib 0) as (λ b. Bare (if b (refused 2) (lookOn bib t (walk h card t bib)))) [ true ↦ bare-refused 2 | false ↦ lookOn-bare bib t (walk h card t bib) ]
+    bare-if (eqb bib 0) (refused 2) _ (bare-refused 2) (bare-if (ltb t (beginning card)) (refused 13) _ (bare-refused 13) (lookOn-bare bib t (walk h card t bib)))
 
 ended-bare : Bare ended
 unfolding ended
@@ -85,7 +89,7 @@ from-bare wk k t (suc f) x = hop-bare k t x (wk x) (nextFrom wk k t f) (from-bar
 next-bare : (k t : ℕ) (card : List ℕ) (o : Option Head) → Bare (nextIn k t card o)
 unfolding nextIn
 next-bare k t card none = bare-refused 1
-next-bare k t card (some h) = from-bare (walk h card t) k t 4294967296 k
+next-bare k t card (some h) = bare-if (ltb t (beginning card)) (refused 13) _ (bare-refused 13) (from-bare (walk h card t) k t 4294967296 k)
 
 pub plan-same : (card : List ℕ) (p : Plan) → (planAnswer p .code ≡ 0 → ⊥) → planCard card p ≡ card
 unfolding planCard planAnswer refused

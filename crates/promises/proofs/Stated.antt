@@ -1,5 +1,5 @@
 -- What a card says of itself.
-use mathlib.Core.Path.{_≡_, refl, ap, sym, _∙_}
+use mathlib.Core.Path.{_≡_, refl, sym, _∙_}
 use mathlib.Core.List.{List}
 use mathlib.Core.Option.{Option, none, some}
 use Prim.Native.Nat.{ℕ, _≤_, _<_}
@@ -12,8 +12,8 @@ use Rattle.rules.specs.Answers.{refused}
 use Rattle.rules.specs.Layout.{headOf}
 use Rattle.rules.specs.Sector.{postEntry}
 use Rattle.rules.specs.Walk.{Visit, walk}
-use Rattle.rules.specs.Write.{Plan, refuse, accept, refuseIf, planAnswer, planAt, planFor, plan, post, stampOn, topUsed, latest}
-use Rattle.rules.specs.State.{stateOf, stateIn, state}
+use Rattle.rules.specs.Write.{Plan, refuse, accept, refuseIf, planAnswer, planAt, planFor, plan, post, stampOn, latest}
+use Rattle.rules.specs.State.{stateIn, state}
 use Rattle.rules.specs.Calls.{called, planned, postCall}
 use Rattle.laws.proofs.Numbers.{Refuses, at-refuses}
 use Rattle.state.proofs.States.{with-head}
@@ -25,7 +25,7 @@ pub state-tells-the-truth : StateTellsTheTruth
 state-tells-the-truth h card f calls s =
     let ke = calls-keep h card f calls s .0 in
     let d = cardAfter card calls in
-    with-head d h (ke .state .head) ∙ ap (λ (last : ℕ). stateOf h last (topUsed h d (h .n))) (ke .top)
+    sym (with-head d h (ke .state .head) 0 _ _ (sym (ke .begins)) (sym (ke .top)) refl)
 
 -- past the stamp no plan is refused with 3
 other-number : (p : Plan) → Refuses (λ c. c ≡ 3 → ⊥) p → planAnswer p .code ≡ 3 → ⊥

@@ -5,10 +5,11 @@ use mathlib.Core.Path.{refl, sym, ap, subst, _∙_, _≡_}
 use mathlib.Core.Logic.{inl, inr}
 use mathlib.Core.List.{List}
 use lib.ListN.{length}
-use borrow.Author.Tests.{ne-eqb}
+use borrow.Author.Tests.{ne-eqb, le-ltb}
 use native.Mathlib.Omega.{arith}
 use Rattle.rules.specs.declared.Entry.{Entry}
 use Rattle.rules.specs.declared.Head.{Head}
+use Rattle.rules.specs.Layout.{beginning}
 use Rattle.rules.specs.Walk.{Visit, walk}
 use Rattle.rules.specs.Next.{next}
 use Rattle.rules.specs.Format.{meant}
@@ -54,7 +55,8 @@ unfolding look lookIn lookOn
 keeps-look h card es last ke bib t lo hi =
     let a = ke .answers t bib (omega arith) hi in
     let there = ends-here (after (λ s. nothing) es t) t bib 0 4294967296 (a .0) (a .2) ∙ after-plain es t bib in
-    (a .0, a .1, rw (ke .state .head, ne-eqb bib 0 (λ z. omega arith), a .1, there))
+    let begins = ke .begins in
+    (a .0, a .1, rw (ke .state .head, ne-eqb bib 0 (λ z. omega arith), le-ltb t (beginning card) (omega arith), a .1, there))
 
 pub look-tells-the-truth : LookTellsTheTruth
 look-tells-the-truth h card f calls s bib t lo hi =

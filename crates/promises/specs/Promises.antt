@@ -172,7 +172,7 @@ ScrollSaysAgain = (s : Scroll) → stepOf s .bib ≡ 0 → stepOf (after s (step
 abbrev pub StateTellsTheTruth : Type 0
 StateTellsTheTruth =
     (h : Head) (card : List ℕ) → Formatted h card → (calls : List Act) → AllSized calls
-    → state (cardAfter card calls) ≡ stateOf h (lastStamp 0 (accepted card calls)) (topUsed h (cardAfter card calls) (h .n))
+    → state (cardAfter card calls) ≡ stateOf h 0 (lastStamp 0 (accepted card calls)) (topUsed h (cardAfter card calls) (h .n))
 
 -- What a state tells decides: a stamp is refused with 3 exactly where it is not above the last.
 abbrev pub StateTellsTheNext : Type 0

@@ -1,5 +1,5 @@
 -- What cases (a) to (h) leave open: the bytes themselves, the defaults, the limits, each refusal in its order, each kind of damage,
--- and the strike just added. One statement over one list, which the checker computes.
+-- the strike just added, and a card with a beginning. One statement over one list, which the checker computes.
 use Prim.Native.Nat.{ℕ}
 use mathlib.Core.List.{List, [], _∷_, _++_}
 use lib.Dec.{T}
@@ -18,9 +18,12 @@ ok k = says k (answer 0 0 0 0 0)
 abbrev raw : ℕ → ℕ → ℕ → ℕ → ℕ → List ℕ
 raw kind other key stamp value = kind ∷ other ∷ 0 ∷ 0 ∷ key ∷ 0 ∷ 0 ∷ 0 ∷ stamp ∷ 0 ∷ 0 ∷ 0 ∷ value ∷ 0 ∷ 0 ∷ 0 ∷ []
 
--- the head's bytes: m, TD, TI, N
+-- the head's bytes: m, TD, TI, N, the beginning
+abbrev headFrom : ℕ → ℕ → ℕ → ℕ → ℕ → List ℕ
+headFrom m td ti n begin = 6 ∷ m ∷ td ∷ ti ∷ n ∷ 0 ∷ 0 ∷ 0 ∷ begin ∷ 0 ∷ 0 ∷ 0 ∷ 0 ∷ 0 ∷ 0 ∷ 0 ∷ []
+
 abbrev head : ℕ → ℕ → ℕ → ℕ → List ℕ
-head m td ti n = 6 ∷ m ∷ td ∷ ti ∷ n ∷ 0 ∷ 0 ∷ 0 ∷ 0 ∷ 0 ∷ 0 ∷ 0 ∷ 0 ∷ 0 ∷ 0 ∷ 0 ∷ []
+head m td ti n = headFrom m td ti n 0
 
 -- "a TD of 0 means floor(3m/4), a TI of 0 means m - floor(m/8)"
 abbrev default : ℕ → ℕ → ℕ → List Line
@@ -234,6 +237,25 @@ batches =
     ∷ holds 2 (Held (strikeEntry 0 0) ∷ Held (postEntry 1 5 7) ∷ Held (strikeEntry 1 6) ∷ Held (postEntry 3 8 8) ∷ [])
     ∷ []
 
+-- a card that begins with 9: as of 8 it answers 13, after 2 and ahead of 4; as of 9 it answers. A post goes by the buckets' stamps alone
+abbrev begun : List Line
+begun =
+    anew
+    ∷ ok (formatCall 2 4 3 4)
+    ∷ writes 0 (headFrom 4 3 4 2 9)
+    ∷ tells (0 ∷ 2 ∷ 4 ∷ 3 ∷ 4 ∷ 9 ∷ 0 ∷ 2 ∷ [])
+    ∷ says (lookCall 0 8) (refused 2)
+    ∷ says (lookCall 1 8) (refused 13)
+    ∷ says (nextCall 0 8) (refused 13)
+    ∷ says (lookCall 1 9) (answer 0 1 0 0 2)
+    ∷ says (nextCall 0 9) (answer 0 0 0 0 0)
+    ∷ spoilt 7 (raw 7 0 0 0 0) (lookCall 1 8) (refused 13)
+    ∷ spoilt 7 (raw 7 0 0 0 0) (nextCall 0 8) (refused 13)
+    ∷ spoilt 0 (6 ∷ 4 ∷ 3 ∷ 4 ∷ 2 ∷ 0 ∷ 0 ∷ 0 ∷ 0 ∷ 0 ∷ 0 ∷ 1 ∷ 0 ∷ 0 ∷ 0 ∷ 0 ∷ []) (lookCall 1 16777215) (refused 13)
+    ∷ spoilt 0 (6 ∷ 4 ∷ 3 ∷ 4 ∷ 2 ∷ 0 ∷ 0 ∷ 0 ∷ 0 ∷ 0 ∷ 0 ∷ 1 ∷ 0 ∷ 0 ∷ 0 ∷ 0 ∷ []) (lookCall 1 16777216) (answer 0 1 0 0 2)
+    ∷ ok (postCall 1 8 1)
+    ∷ []
+
 -- "field not 4, 5 or 6 digits, or time too long": a lap of 1:12.40 is not 12.40; and no thousandth is lost
 abbrev nothing : List ℕ
 nothing = 0 ∷ 0 ∷ 0 ∷ 0 ∷ 0 ∷ 0 ∷ []
@@ -252,7 +274,7 @@ fields =
     ∷ []
 
 abbrev pub pins : List Line
-pins = defaults ++ (limits ++ (two ++ (damage ++ (rewritten ++ (passedOver ++ (batches ++ fields))))))
+pins = defaults ++ (limits ++ (two ++ (damage ++ (rewritten ++ (passedOver ++ (batches ++ (begun ++ fields)))))))
 
 pub pins-pass : T (passes [] pins)
 unfolding rules

@@ -1,5 +1,5 @@
 -- What a call answers: the number, bib, the record's stamp, its time, buckets read.
--- 0 accepted, found, none or end; 8, 9 format; 1 layout; 2 bib 0; 3 stamp; 4 damage; 5 nothing stands; 6 full; 7 panel; 10 bench line.
+-- 0 accepted, found, none or end; 8, 9 format; 1 layout; 2 bib 0; 3 stamp; 4 damage; 5 nothing stands; 6 full; 7 panel; 10 bench line; 13 as of a stamp before the card's beginning.
 use Prim.Native.Nat.{ℕ}
 use mathlib.Core.Option.{Option, none, some}
 use Rattle.rules.specs.declared.Entry.{Entry}

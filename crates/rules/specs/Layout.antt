@@ -25,15 +25,19 @@ headFields s = record { m = getD s 1 0; td = getD s 2 0; ti = getD s 3 0; n = wo
 unfoldable pub headBytes : Head → ℕ → List ℕ
 headBytes h begin = 6 ∷ h .m ∷ h .td ∷ h .ti ∷ le4 (h .n) ++ (le4 begin ++ (0 ∷ 0 ∷ 0 ∷ 0 ∷ []))
 
--- the head that sector 0 holds, kind 6 and "8..15 zero", or none where it or the length breaks the layout
+-- the head that sector 0 holds, kind 6 and 12..15 zero, or none where it or the length breaks the layout
 unfoldable pub headIn : List ℕ → ℕ → Option Head
 headIn s len =
-    if (eqb (getD s 0 0) 6 & eqb (word s 8) 0 & eqb (word s 12) 0 & limits (headFields s) & eqb len (sizeOf (headFields s)))
+    if (eqb (getD s 0 0) 6 & eqb (word s 12) 0 & limits (headFields s) & eqb len (sizeOf (headFields s)))
     (some (headFields s))
     none
 
 unfoldable pub headOf : List ℕ → Option Head
 headOf card = headIn (sectorAt card 0) (length card)
+
+-- "head bytes 8..11 carry t as the card's beginning"
+unfoldable pub beginning : List ℕ → ℕ
+beginning card = word (sectorAt card 0) 8
 
 -- "Then N sectors of root log, then buckets 1..N of m sectors": where bucket b starts, in sectors
 unfoldable pub base : Head → ℕ → ℕ

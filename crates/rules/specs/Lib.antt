@@ -9,6 +9,7 @@ pub mod Next
 pub mod Rewrite
 pub mod Write
 pub mod Format
+pub mod Records
 pub mod State
 pub mod Batch
 pub mod Calls

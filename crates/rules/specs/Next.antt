@@ -6,9 +6,9 @@ use lib.Dec.{ltb}
 use Rattle.rules.specs.declared.Entry.{Entry}
 use Rattle.rules.specs.declared.Head.{Head}
 use Rattle.rules.specs.declared.Answer.{Answer}
-use Rattle.rules.specs.Plain.{_&_, isNone, keepIf, only, smallest}
+use Rattle.rules.specs.Plain.{if, _&_, isNone, keepIf, only, smallest}
 use Rattle.rules.specs.Sector.{isIndex, isPost}
-use Rattle.rules.specs.Layout.{headOf}
+use Rattle.rules.specs.Layout.{headOf, beginning}
 use Rattle.rules.specs.Walk.{Visit, left, copyOf, walk, dataOf}
 use Rattle.rules.specs.Answers.{answer, refused, ended}
 
@@ -57,10 +57,10 @@ unfoldable pub nextFrom : (ℕ → Option (List Visit)) → ℕ → ℕ → ℕ 
 nextFrom wk k t zero x = ended
 nextFrom wk k t (suc f) x = hopping (hop k t x (wk x)) (nextFrom wk k t f)
 
--- 1, then 4
+-- 1, then 13 before the beginning, then 4
 unfoldable pub nextIn : ℕ → ℕ → List ℕ → Option Head → Answer
 nextIn k t card none = refused 1
-nextIn k t card (some h) = nextFrom (walk h card t) k t 4294967296 k
+nextIn k t card (some h) = if (ltb t (beginning card)) (refused 13) (nextFrom (walk h card t) k t 4294967296 k)
 
 unfoldable pub next : List ℕ → ℕ → ℕ → Answer
 next card k t = nextIn k t card (headOf card)

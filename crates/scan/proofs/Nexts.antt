@@ -8,11 +8,12 @@ use Rattle.rules.specs.declared.Entry.{Entry}
 use Rattle.rules.specs.declared.Head.{Head}
 use Rattle.rules.specs.declared.Answer.{Answer}
 use Rattle.rules.specs.declared.Sector.{Sector}
+use lib.Dec.{ltb}
 use Rattle.rules.specs.Answers.{refused}
 use Rattle.rules.specs.Bucket.{joins, run, soundBucket, bucket, log}
-use Rattle.rules.specs.Layout.{base, headOf}
+use Rattle.rules.specs.Layout.{base, headOf, beginning}
 use Rattle.rules.specs.Next.{keyAbove, indexOn, standingAbove, final, hopTo, hopOr, hop, hopping, nextFrom, nextIn, next}
-use Rattle.rules.specs.Plain.{every, only, smallest}
+use Rattle.rules.specs.Plain.{if, every, only, smallest}
 use Rattle.rules.specs.Sector.{isIndex}
 use Rattle.rules.specs.Walk.{Visit, Turn, broken, arrived, down, left, copyOf, turn, met, go, goIn, path, pathFrom, walk, dataOf}
 use Rattle.laws.proofs.Tools.{none-some, then-inv, guard-true}
@@ -167,7 +168,7 @@ rounds-next h card k t (suc f) x =
 in-next : (k t : ℕ) (card : List ℕ) (h : Option Head) → nextScanIn k t card h ≡ nextIn k t card h
 unfolding nextScanIn nextIn
 in-next k t card none = refl
-in-next k t card (some h) = rounds-next h card k t 4294967296 k
+in-next k t card (some h) = ap (if (ltb t (beginning card)) (refused 13)) (rounds-next h card k t 4294967296 k)
 
 -- next, as the loops run, is the rules' next
 pub next-scan : (card : List ℕ) (k t : ℕ) → nextScan card k t ≡ next card k t

@@ -2,12 +2,12 @@
 use Prim.Native.Nat.{ℕ, zero, suc, _+_, _*_}
 use mathlib.Core.List.{List}
 use mathlib.Core.Option.{Option, none, some}
-use lib.Dec.{eqb}
+use lib.Dec.{ltb, eqb}
 use lib.ListN.{take, drop}
 use Rattle.rules.specs.declared.Head.{Head}
 use Rattle.rules.specs.declared.Answer.{Answer}
 use Rattle.rules.specs.Answers.{refused, sheet}
-use Rattle.rules.specs.Layout.{base, headOf}
+use Rattle.rules.specs.Layout.{base, headOf, beginning}
 use Rattle.rules.specs.Plain.{if}
 use Rattle.rules.specs.Walk.{standing}
 use Rattle.scan.specs.declared.Found.{Found}
@@ -63,7 +63,7 @@ toldOf bib w = told bib (w .reads) (w .found)
 unfoldable pub lookScanIn : ℕ → ℕ → List ℕ → Option Head → Answer
 lookScanIn bib t card none = refused 1
 lookScanIn bib t card (some h) =
-    if (eqb bib 0) (refused 2) (toldOf bib (tripFrom h card bib t (searchLog t (sectors (h .n) card 1 (h .n)))))
+    if (eqb bib 0) (refused 2) (if (ltb t (beginning card)) (refused 13) (toldOf bib (tripFrom h card bib t (searchLog t (sectors (h .n) card 1 (h .n))))))
 
 unfoldable pub lookScan : List ℕ → ℕ → ℕ → Answer
 lookScan card bib t = lookScanIn bib t card (headOf card)

@@ -10,7 +10,7 @@ use Rattle.rules.specs.declared.Answer.{Answer}
 use Rattle.rules.specs.declared.Sector.{Sector}
 use Rattle.rules.specs.declared.Sector.the-variants.{Blank, Held, Damaged}
 use Rattle.rules.specs.Answers.{refused, ended}
-use Rattle.rules.specs.Layout.{base, headOf}
+use Rattle.rules.specs.Layout.{base, headOf, beginning}
 use Rattle.rules.specs.Plain.{if, _&_}
 use Rattle.rules.specs.Sector.{isIndex, isPost}
 use Rattle.scan.specs.declared.Found.{Found}
@@ -129,7 +129,7 @@ rounds h card k t (suc f) x = after (leg h card k t x) (rounds h card k t f)
 
 unfoldable pub nextScanIn : ℕ → ℕ → List ℕ → Option Head → Answer
 nextScanIn k t card none = refused 1
-nextScanIn k t card (some h) = rounds h card k t 4294967296 k
+nextScanIn k t card (some h) = if (ltb t (beginning card)) (refused 13) (rounds h card k t 4294967296 k)
 
 unfoldable pub nextScan : List ℕ → ℕ → ℕ → Answer
 nextScan card k t = nextScanIn k t card (headOf card)

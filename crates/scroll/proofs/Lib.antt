@@ -1,1 +1,1 @@
-mod Rolls
+pub mod Rolls

@@ -5,18 +5,19 @@ use mathlib.Core.List.{List, [], _∷_}
 use mathlib.Core.Option.{none, some}
 use Prim.Native.Nat.{ℕ, zero, suc, _+_, _-_, _<_, _≤_}
 use native.Mathlib.Omega.{arith}
-use borrow.Author.Tests.{eq-eqb, ne-eqb}
+use borrow.Author.Tests.{eq-eqb, ne-eqb, lt-ltb, le-ltb}
 use lib.Dec.{eqb}
 use lib.ListN.{length}
 use Rattle.rules.specs.declared.Answer.{Answer}
 use Rattle.rules.specs.declared.Entry.{Entry}
 use Rattle.rules.specs.declared.Head.{Head}
-use Rattle.rules.specs.Layout.{headOf}
+use Rattle.rules.specs.Layout.{headOf, beginning}
 use Rattle.rules.specs.Next.{next}
+use Rattle.rules.specs.Records.{Roll, roll, recordOf, rollOn, rolled}
 use Rattle.rules.specs.Sector.{put, encode}
 use Rattle.scroll.specs.declared.Tally.{Tally}
 use Rattle.writer.specs.Rows.{puts}
-use Rattle.scroll.specs.Records.{Roll, roll, recordOf, rollOn, rolled, given, recordsIn, recordsOf, tallyOf}
+use Rattle.scroll.specs.Records.{given, recordsIn, recordsOf, tallyOf}
 
 -- the tally of a roll that comes after n records
 abbrev pub tallyAfter : ℕ → Roll → Tally
@@ -32,11 +33,11 @@ pub lay-start : (card : List ℕ) (at c bib : ℕ) (out : List ℕ) → puts out
 lay-start card at c bib out = let all : c - 0 ≡ c = omega arith in rw all
 
 module _ (card : List ℕ) (at c i last : ℕ) (a : Answer) (is : a ≡ next card last at) (lt : i < c) where
-  roll-stop : a .bib ≡ 0 → rolled card at (c - i) last ≡ roll (a .code) []
+  pub roll-stop : a .bib ≡ 0 → rolled card at (c - i) last ≡ roll (a .code) []
   unfolding rolled rollOn
   roll-stop z = let e : c - i ≡ suc (c - (i + 1)) = omega arith in rw (e, ← is, eq-eqb _ _ z)
 
-  roll-more : (a .bib ≡ 0 → ⊥) → rolled card at (c - i) last ≡ roll (rolled card at (c - (i + 1)) (a .bib) .code) (recordOf a ∷ rolled card at (c - (i + 1)) (a .bib) .records)
+  pub roll-more : (a .bib ≡ 0 → ⊥) → rolled card at (c - i) last ≡ roll (rolled card at (c - (i + 1)) (a .bib) .code) (recordOf a ∷ rolled card at (c - (i + 1)) (a .bib) .records)
   unfolding rolled rollOn
   roll-more z = let e : c - i ≡ suc (c - (i + 1)) = omega arith in rw (e, ← is, ne-eqb _ _ z)
 
@@ -57,7 +58,7 @@ module _ (card : List ℕ) (at c i last : ℕ) (a : Answer) (is : a ≡ next car
   lay-more R out new e h z = rw e (rw (roll-more z) at h)
 
 module _ (card : List ℕ) (at c i last : ℕ) (le : c ≤ i) where
-  roll-end : rolled card at (c - i) last ≡ roll 0 []
+  pub roll-end : rolled card at (c - i) last ≡ roll 0 []
   unfolding rolled
   roll-end = let e : c - i ≡ 0 = omega arith in rw e
 
@@ -75,7 +76,7 @@ one-length card at c bib less true e = simp e refl
 one-length card at c bib less false e = simp e (ap (λ (es : List Entry). recordOf (next card bib at) ∷ es) (less (next card bib at .bib)))
 
 -- a roll of as many places as another has records has the same records
-roll-length : (card : List ℕ) (at c bib : ℕ) → rolled card at (length (rolled card at c bib .records)) bib .records ≡ rolled card at c bib .records
+pub roll-length : (card : List ℕ) (at c bib : ℕ) → rolled card at (length (rolled card at c bib .records)) bib .records ≡ rolled card at c bib .records
 unfolding rolled
 roll-length card at zero bib = refl
 roll-length card at (suc c) bib = one-length card at c bib (roll-length card at c) _ refl
@@ -88,14 +89,19 @@ given-none : (r : Roll) → (r .code ≡ 0 → ⊥) → given r ≡ roll (r .cod
 unfolding given
 given-none r z = rw (ne-eqb _ _ z)
 
--- the head is asked first
+-- the head is asked first, and its beginning
 pub records-broken : (card : List ℕ) (at c bib : ℕ) → headOf card ≡ none → recordsOf card at c bib ≡ roll 1 []
 unfolding recordsOf recordsIn
 records-broken card at c bib e = rw e
 
-pub records-sound : (card : List ℕ) (at c bib : ℕ) (h : Head) → headOf card ≡ some h → recordsOf card at c bib ≡ given (rolled card at c bib)
-unfolding recordsOf recordsIn
-records-sound card at c bib h e = rw e
+module _ (card : List ℕ) (at c bib : ℕ) (h : Head) (e : headOf card ≡ some h) where
+  pub records-early : at < beginning card → recordsOf card at c bib ≡ roll 13 []
+  unfolding recordsOf recordsIn
+  records-early lt = rw (e, lt-ltb at (beginning card) lt)
+
+  pub records-sound : beginning card ≤ at → recordsOf card at c bib ≡ given (rolled card at c bib)
+  unfolding recordsOf recordsIn
+  records-sound le = rw (e, le-ltb at (beginning card) le)
 
 -- what is given of a roll that was counted: all where it met no refusal, else nothing
 module _ (card : List ℕ) (at c bib : ℕ) (out : List ℕ) (t : Tally) (is : t ≡ tallyOf (rolled card at c bib)) where

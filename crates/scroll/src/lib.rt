@@ -5,9 +5,10 @@ ghost use lib.ListN.{length};
 ghost use Rattle.rules.specs.Next.{next};
 ghost use Rattle.scroll.specs.Scroll.{lastAfter, after};
 ghost use Rattle.writer.specs.Rows.{puts};
-ghost use Rattle.scroll.specs.Records.{rolled, given, recordsOf, tallyOf};
+ghost use Rattle.rules.specs.Records.{rolled};
+ghost use Rattle.scroll.specs.Records.{given, recordsOf, tallyOf};
 
-mod roll;
+pub mod roll;
 
 use rules::Answer;
 use walk::Layout;
@@ -70,7 +71,8 @@ fn page(card: &[u8], bib: u32, at: u32, out: &mut [u8]) -> Tally
     }
 }
 
-// The same, but the head is asked first: a buffer without room for a record asks for none, and would not see that it is broken.
+// The same, but the head is asked first: a buffer without room for a record asks for none, and would not see that it is broken or
+// begins later.
 pub fn records(card: &[u8], bib: u32, at: u32, out: &mut [u8]) -> Tally
     ensures { λ r. ⌜ r ≡ tallyOf (recordsOf (now (card .entry)) at (length (now (out .entry)) / 16) bib) ⌝ }
     ensures { λ _. ⌜ now (out .exit) ≡ puts (now (out .entry)) 0 (recordsOf (now (card .entry)) at (length (now (out .entry)) / 16) bib .records) ⌝ }
@@ -79,5 +81,8 @@ pub fn records(card: &[u8], bib: u32, at: u32, out: &mut [u8]) -> Tally
     let Layout::Sound(_) = layout else {
         return Tally { code: 1, count: 0 };
     };
+    if at < walk::head::beginning(card) {
+        return Tally { code: 13, count: 0 };
+    }
     page(card, bib, at, out)
 }

@@ -3,7 +3,8 @@ ghost use mathlib.Core.Path.{_≡_};
 ghost use Prim.Native.Nat.{_*_, _≤_};
 ghost use lib.ListN.{length};
 ghost use Rattle.writer.specs.Rows.{puts};
-ghost use Rattle.scroll.specs.Records.{rolled, tallyOf, recordOf};
+ghost use Rattle.rules.specs.Records.{rolled, recordOf};
+ghost use Rattle.scroll.specs.Records.{tallyOf};
 use crate::Tally;
 use rules::Answer;
 use rules::Entry;
@@ -28,7 +29,7 @@ pub fn counted(card: &[u8], bib: u32, at: u32, places: usize) -> Tally
     Tally { code: 0, count: i }
 }
 
-fn record_of(a: Answer) -> Entry
+pub fn record_of(a: Answer) -> Entry
     ensures { λ r. ⌜ r ≡ recordOf a ⌝ }
 {
     Entry {

@@ -4,7 +4,7 @@ use mathlib.Core.List.{List}
 use mathlib.Core.Option.{none, some}
 use Prim.Native.Nat.{ℕ}
 use Rattle.rules.specs.declared.Head.{Head}
-use Rattle.rules.specs.Layout.{headOf}
+use Rattle.rules.specs.Layout.{headOf, beginning}
 use Rattle.rules.specs.State.{stateOf, noState, stateIn, state}
 use Rattle.rules.specs.Write.{stampOn, topUsed}
 
@@ -12,6 +12,7 @@ pub no-head : (card : List ℕ) → headOf card ≡ none → state card ≡ noSt
 unfolding state stateIn
 no-head card q = rw q
 
-pub with-head : (card : List ℕ) (h : Head) → headOf card ≡ some h → state card ≡ stateOf h (stampOn h card) (topUsed h card (h .n))
+pub with-head : (card : List ℕ) (h : Head) → headOf card ≡ some h → (begin stamp used : ℕ) → begin ≡ beginning card → stamp ≡ stampOn h card → used ≡ topUsed h card (h .n)
+    → stateOf h begin stamp used ≡ state card
 unfolding state stateIn
-with-head card h q = rw q
+with-head card h q begin stamp used b s u = rw (q, b, s, u)

@@ -22,9 +22,9 @@ fn no_state(code: u32) -> State
     }
 }
 
-fn state_of(head: Head, area: Area) -> State
+fn state_of(head: Head, begin: u32, area: Area) -> State
     requires { ⌜ (head .n ≤ 4096) × (head .m ≤ 32) × (head .td ≤ head .m) × (head .ti ≤ head .m) × (area .used ≤ head .n) ⌝ }
-    ensures { λ r. ⌜ r ≡ stateOf head (area .stamp) (area .used) ⌝ }
+    ensures { λ r. ⌜ r ≡ stateOf head begin (area .stamp) (area .used) ⌝ }
 {
     State {
         code: 0,
@@ -32,13 +32,13 @@ fn state_of(head: Head, area: Area) -> State
         sectors: head.m as u32,
         td: head.td as u32,
         ti: head.ti as u32,
-        begin: 0,
+        begin,
         last: area.stamp,
         used: area.used as u32,
     }
 }
 
-// The head's numbers, the largest stamp and the highest bucket used, from the pass that a write makes too.
+// The head's numbers and beginning, the largest stamp and the highest bucket used, from the pass that a write makes too.
 pub fn of_card(card: &[u8]) -> State
     ensures { λ r. ⌜ r ≡ state (now (card .entry)) ⌝ }
 {
@@ -46,6 +46,7 @@ pub fn of_card(card: &[u8]) -> State
     let Layout::Sound(head) = layout else {
         return no_state(1);
     };
+    let begin = walk::head::beginning(card);
     let area = survey::survey(card, head);
-    state_of(head, area)
+    state_of(head, begin, area)
 }

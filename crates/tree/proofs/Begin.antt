@@ -14,10 +14,10 @@ use Rattle.rules.specs.declared.Entry.{Entry}
 use Rattle.rules.specs.declared.Head.{Head}
 use Rattle.rules.specs.Bucket.{blanksOf, bucket, log, onto, run, soundBucket, soundLog, joins}
 use Rattle.rules.specs.Format.{dummy, format, formatFor, formatted, meant}
-use Rattle.rules.specs.Layout.{base, headBytes, headIn, headOf, limits, sizeOf}
+use Rattle.rules.specs.Layout.{base, beginning, headBytes, headIn, headOf, limits, sizeOf}
 use Rattle.rules.specs.Plain.{_&_, zeros, andThen, every, keepIf, larger, largest, lastOf, only}
 use Rattle.rules.specs.Rewrite.{into}
-use Rattle.rules.specs.Sector.{encode, isData, isIndex, isPost, isRoot, le4, put, rootEntry, sectorAt, indexEntry}
+use Rattle.rules.specs.Sector.{encode, isData, isIndex, isPost, isRoot, le4, put, rootEntry, sectorAt, indexEntry, word}
 use Rattle.rules.specs.Walk.{copyOf, follow, standing}
 use Rattle.rules.specs.Write.{accept, refuseIf, stampOn, stampOf}
 use Rattle.laws.proofs.Blocks.{blank-room}
@@ -25,7 +25,7 @@ use Rattle.laws.proofs.Buckets.{raw, run-past}
 use Rattle.laws.proofs.Bytes.{Bytes, bytes-append, bytes-encode, bytes-le4, bytes-put, zero-bytes}
 use Rattle.laws.proofs.Entries.{Fine, root-fine, index-fine, dummy-fine}
 use Rattle.laws.proofs.Codec.{length-encode}
-use Rattle.laws.proofs.Heads.{limits-hold, head-read, head-length}
+use Rattle.laws.proofs.Heads.{limits-hold, head-read, head-begins, head-length}
 use Rattle.laws.proofs.Lists.{upper}
 use Rattle.laws.proofs.Plans.{not-false, passed}
 use Rattle.laws.proofs.Run.{blanks-agree, decode-put, run-agree}
@@ -70,7 +70,7 @@ module _ (h : Head) (lim : limits h ≡ true) (card : List ℕ) (size : sizeOf h
   big = omega (arith, size)
 
   len1 : length card1 ≡ length card
-  len1 = length-put card 0 (headBytes h 0) (head-length h) (omega (arith, big))
+  len1 = length-put card 0 (headBytes h 0) (head-length h 0) (omega (arith, big))
 
   len2 : length card2 ≡ length card
   len2 = length-put card1 1 (encode root) (length-encode root) (omega (arith, big, len1)) ∙ len1
@@ -100,7 +100,7 @@ module _ (h : Head) (lim : limits h ≡ true) (card : List ℕ) (size : sizeOf h
 
   -- what the format writes first leaves the rest as it was
   same1 : (j : ℕ) → 1 ≤ j → sectorAt card1 j ≡ sectorAt card j
-  same1 j lo = sector-put-other card 0 j (headBytes h 0) (head-length h) (omega (arith, big)) (λ z. omega arith)
+  same1 j lo = sector-put-other card 0 j (headBytes h 0) (head-length h 0) (omega (arith, big)) (λ z. omega arith)
 
   same2 : (j : ℕ) → 2 ≤ j → sectorAt card2 j ≡ sectorAt card j
   same2 j lo = sector-put-other card1 1 j (encode root) (length-encode root) (omega (arith, big, len1)) (λ z. omega arith) ∙ same1 j (omega arith)
@@ -134,7 +134,7 @@ module _ (h : Head) (lim : limits h ≡ true) (card : List ℕ) (size : sizeOf h
 
       log-one : (n : ℕ) → h .n ≡ n → andThen (run (h .n) card2 1 n) soundLog ≡ some (root ∷ [])
       log-one zero e = absurd (omega arith)
-      log-one (suc c) e = rw (decode-put (h .n) card1 root (fine-root .0) (fine-root .1) 1 1 refl (omega (arith, big, len1)), rest c (omega arith))
+      log-one (suc c) e = rw (decode-put (h .n) card1 root (fine-root .1) 1 1 refl (omega (arith, big, len1)), rest c (omega arith))
 
   sound-idx : soundBucket (idx ∷ []) ≡ some (idx ∷ [])
   unfolding soundBucket every joins isIndex
@@ -162,14 +162,20 @@ module _ (h : Head) (lim : limits h ≡ true) (card : List ℕ) (size : sizeOf h
   front4 : (j : ℕ) → j < 1 + h .n → sectorAt card4 j ≡ sectorAt card2 j
   front4 j lt = fb2 .front j lt ∙ fb1 .front j lt
 
+  first4 : sectorAt card4 0 ≡ headBytes h 0
+  first4 =
+      front4 0 (omega arith) ∙ sector-put-other card1 1 0 (encode root) (length-encode root) (omega (arith, big, len1)) (λ z. omega arith)
+      ∙ sector-put-same card 0 (headBytes h 0) (head-length h 0) (omega (arith, big))
+
+  begins4 : beginning card4 ≡ 0
+  unfolding beginning
+  begins4 = ap (λ (s : List ℕ). word s 8) first4 ∙ head-begins h 0
+
   head4 : headOf card4 ≡ some h
   unfolding headOf
   head4 =
-      ap₂ headIn
-      (front4 0 (omega arith) ∙ sector-put-other card1 1 0 (encode root) (length-encode root) (omega (arith, big, len1)) (λ z. omega arith)
-      ∙ sector-put-same card 0 (headBytes h 0) (head-length h) (omega (arith, big)))
-      (sym (fb2 .ready .size))
-      ∙ head-read h (sizeOf h) lim n4096 refl
+      ap₂ headIn first4 (sym (fb2 .ready .size))
+      ∙ head-read h 0 (sizeOf h) lim refl
 
   tree4 : Tree (bucket h card4) nothing 1 1 0 4294967296
   unfolding follow only largest larger upper isIndex isData
@@ -213,6 +219,7 @@ module _ (h : Head) (lim : limits h ≡ true) (card : List ℕ) (size : sizeOf h
     calm = λ t x le. refl;
     top = top4;
     logs-upto = (omega arith, tt);
+    begins = begins4;
     since = omega arith;
     small = omega arith;
     answers = λ t x le lt. now-ends h card4 nothing 1 state4 t (omega (arith, top4)) (omega arith, tt) x lt;

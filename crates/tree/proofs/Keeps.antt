@@ -1,6 +1,6 @@
 -- A card that answers as it should does so with one accepted entry more.
 use Prim.Native.Nat.{_<_, _≤_, ℕ, _+_}
-use borrow.Author.Tests.{le-leb, lt-leb}
+use borrow.Author.Tests.{le-leb, lt-leb, le-ltb}
 use lib.Dec.{eqb, leb}
 use lib.ListN.{length}
 use mathlib.Core.Bool.{true}
@@ -12,13 +12,14 @@ use native.Mathlib.Omega.{arith}
 use Rattle.rules.specs.declared.Entry.{Entry}
 use Rattle.rules.specs.declared.Head.{Head}
 use Rattle.rules.specs.Bucket.{bucket}
-use Rattle.rules.specs.Layout.{sizeOf}
+use Rattle.rules.specs.Layout.{sizeOf, beginning}
 use Rattle.rules.specs.Next.{next, nextIn}
 use Rattle.rules.specs.Plain.{if}
 use Rattle.rules.specs.Sector.{isData}
 use Rattle.rules.specs.Walk.{Visit, pathFrom, pathIn, standing, walk}
 use Rattle.rules.specs.Write.{accept, plan, planOn, stampOn, latest}
 use Rattle.laws.proofs.Buckets.{bucket-within}
+use Rattle.laws.proofs.Carries.{beginning-after}
 use Rattle.laws.proofs.Heads.{head-facts}
 use Rattle.laws.proofs.Lists.{All, all-append, all-map}
 use Rattle.laws.proofs.Plans.{plan-inv}
@@ -51,6 +52,7 @@ pub record Keeps (h : Head) (card : List ℕ) (g : ℕ → ℕ → Option Entry)
   -- s is the largest stamp, in the buckets and in the log
   pub top : stampOn h card ≡ s
   pub logs-upto : All (λ e. e .stamp ≤ s) (state .logs)
+  pub begins : beginning card ≡ begin
   pub since : begin ≤ s
   pub small : s < 4294967296
   -- every walk arrives at a data bucket that tells the truth for its range of keys
@@ -139,6 +141,7 @@ module _ (h : Head) (card : List ℕ) (g : ℕ → ℕ → Option Entry) (begin 
         calm = calm;
         top = top;
         logs-upto = lu;
+        begins = beginning-after h card (st .head) (st .bytes) e asks new q ∙ ke .begins;
         since = omega arith;
         small = asks-stamp e asks;
         answers = λ t x le lt.
@@ -159,5 +162,6 @@ pub keeps-next : (h : Head) (card : List ℕ) (g : ℕ → ℕ → Option Entry)
     → NextIs (g t) k (next card k t)
 unfolding next nextIn
 keeps-next h card g begin s ke k t le lt =
-    rw (ke .state .head)
+    let begins = ke .begins in
+    rw (ke .state .head, le-ltb t (beginning card) (omega arith))
     (next-loop (g t) k t (walk h card t) (λ x small. ke .answers t x le small) 4294967296 k (omega arith) lt (omega arith) (λ y a b. absurd (omega arith)))

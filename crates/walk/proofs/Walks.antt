@@ -3,14 +3,14 @@ use mathlib.Core.Path.{_≡_, refl}
 use mathlib.Core.Logic.{⊎-elim}
 use mathlib.Core.Option.{Option, none, some}
 use mathlib.Core.List.{List, [], _∷_}
-use Prim.Native.Nat.{ℕ}
+use Prim.Native.Nat.{ℕ, _≤_, _<_}
 use native.Mathlib.Omega.{arith}
-use borrow.Author.Tests.{eq-eqb, ne-eqb}
+use borrow.Author.Tests.{eq-eqb, ne-eqb, lt-ltb, le-ltb}
 use types.Run.{OneOf}
 use denote.Enum.Declared.{tagOf}
 use Rattle.rules.specs.declared.Head.{Head}
 use Rattle.rules.specs.Answers.{refused}
-use Rattle.rules.specs.Layout.{headOf}
+use Rattle.rules.specs.Layout.{headOf, beginning}
 use Rattle.rules.specs.Look.{lookIn, look}
 use Rattle.scan.specs.declared.Found.{Found}
 use Rattle.scan.specs.declared.Found.the-variants.{Damage, Nothing, Hit}
@@ -49,8 +49,12 @@ module _ (card : List ℕ) (bib t : ℕ) (h : Head) (q : headOf card ≡ some h)
   unfolding look lookIn
   look-zero z = rw (q, eq-eqb bib 0 z)
 
+  pub look-early : (bib ≡ 0 → ⊥) → t < beginning card → refused 13 ≡ look card bib t
+  unfolding look lookIn
+  look-early some-bib lt = rw (q, ne-eqb bib 0 some-bib, lt-ltb t (beginning card) lt)
+
   -- the walk made
-  pub look-told : (w : Trip) → (bib ≡ 0 → ⊥) → w ≡ tripFrom h card bib t (searchLog t (sectors (h .n) card 1 (h .n)))
+  pub look-told : (w : Trip) → (bib ≡ 0 → ⊥) → beginning card ≤ t → w ≡ tripFrom h card bib t (searchLog t (sectors (h .n) card 1 (h .n)))
       → told bib (w .reads) (w .found) ≡ look card bib t
   unfolding lookScan lookScanIn
-  look-told w some-bib walked = rw walked (rw (q, ne-eqb bib 0 some-bib) at (look-scan card bib t))
+  look-told w some-bib le walked = rw walked (rw (q, ne-eqb bib 0 some-bib, le-ltb t (beginning card) le) at (look-scan card bib t))

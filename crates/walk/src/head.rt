@@ -4,7 +4,7 @@ ghost use Prim.Native.Nat.{_≤_};
 ghost use lib.Dec.{eqb};
 ghost use lib.ListN.{length};
 ghost use Rattle.rules.specs.Plain.{_&_, within};
-ghost use Rattle.rules.specs.Layout.{limits, sizeOf, headFields, headIn, headOf};
+ghost use Rattle.rules.specs.Layout.{limits, sizeOf, headFields, headIn, headOf, beginning};
 ghost use Rattle.walk.specs.Heads.{layoutOf};
 use crate::Layout;
 use rules::Head;
@@ -68,14 +68,12 @@ pub fn suits(h: Head, len: usize) -> bool
     false
 }
 
-fn keeps_layout(kind: u8, begin: u32, end: u32, h: Head, len: usize) -> bool
-    ensures { λ r. ⌜ r ≡ (eqb kind 6 & eqb begin 0 & eqb end 0 & limits h & eqb len (sizeOf h)) ⌝ }
+fn keeps_layout(kind: u8, end: u32, h: Head, len: usize) -> bool
+    ensures { λ r. ⌜ r ≡ (eqb kind 6 & eqb end 0 & limits h & eqb len (sizeOf h)) ⌝ }
 {
     if kind == 6 {
-        if begin == 0 {
-            if end == 0 {
-                return suits(h, len);
-            }
+        if end == 0 {
+            return suits(h, len);
         }
     }
     false
@@ -86,9 +84,8 @@ fn head_in(s: &[u8], len: usize) -> Layout
     ensures { λ r. ⌜ r ≡ layoutOf (headIn (now (s .entry)) len) ⌝ }
 {
     let h = head_fields(s);
-    let begin = sector::read_word(s, 8);
     let end = sector::read_word(s, 12);
-    if keeps_layout(s[0], begin, end, h, len) {
+    if keeps_layout(s[0], end, h, len) {
         return Layout::Sound(h);
     }
     Layout::Broken
@@ -103,4 +100,12 @@ pub fn read_head(card: &[u8]) -> Layout
         return Layout::Broken;
     }
     head_in(&card[0..16], len)
+}
+
+// The stamp that the card begins with.
+pub fn beginning(card: &[u8]) -> u32
+    requires { ⌜ 16 ≤ length (now card) ⌝ }
+    ensures { λ r. ⌜ r ≡ beginning (now (card .entry)) ⌝ }
+{
+    sector::read_word(sector::bytes(card, 0), 8)
 }

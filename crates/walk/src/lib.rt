@@ -121,6 +121,9 @@ pub fn look(card: &[u8], bib: u32, at: u32) -> Answer
     if bib == 0 {
         return refusal(2);
     }
+    if at < head::beginning(card) {
+        return refusal(13);
+    }
     let trip = walk(card, head, bib, at);
     let found = trip.found;
     tell(bib, trip.reads, found)

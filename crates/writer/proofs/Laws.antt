@@ -65,11 +65,11 @@ entry-words e h =
     let w : le4 (e .kind) ≡ e .kind ∷ 0 ∷ 0 ∷ 0 ∷ [] = ap le4 k ∙ digits (e .kind) 0 0 0 h (omega arith) (omega arith) in
     ap (λ (l : List ℕ). l ++ (le4 (e .key) ++ (le4 (e .stamp) ++ le4 (e .value)))) w
 
-pub head-words : (h : Head) → h .m < 256 → h .td < 256
-    → fourWords (6 + 256 * h .m + 65536 * h .td + 16777216 * h .ti) (h .n) 0 0 ≡ headBytes h 0
+pub head-words : (h : Head) (begin : ℕ) → h .m < 256 → h .td < 256
+    → fourWords (6 + 256 * h .m + 65536 * h .td + 16777216 * h .ti) (h .n) begin 0 ≡ headBytes h begin
 unfolding fourWords headBytes
-head-words h a b =
-    ap (λ (l : List ℕ). l ++ (le4 (h .n) ++ (le4 0 ++ le4 0))) (digits 6 (h .m) (h .td) (h .ti) (omega arith) a b) ∙ zero-last
+head-words h begin a b =
+    ap (λ (l : List ℕ). l ++ (le4 (h .n) ++ (le4 begin ++ le4 0))) (digits 6 (h .m) (h .td) (h .ti) (omega arith) a b) ∙ zero-last
   where
-    zero-last : 6 ∷ h .m ∷ h .td ∷ h .ti ∷ le4 (h .n) ++ (le4 0 ++ le4 0) ≡ 6 ∷ h .m ∷ h .td ∷ h .ti ∷ le4 (h .n) ++ (le4 0 ++ (0 ∷ 0 ∷ 0 ∷ 0 ∷ []))
-    zero-last = ap (λ (l : List ℕ). 6 ∷ h .m ∷ h .td ∷ h .ti ∷ le4 (h .n) ++ (le4 0 ++ l)) (digits 0 0 0 0 (omega arith) (omega arith) (omega arith))
+    zero-last : 6 ∷ h .m ∷ h .td ∷ h .ti ∷ le4 (h .n) ++ (le4 begin ++ le4 0) ≡ 6 ∷ h .m ∷ h .td ∷ h .ti ∷ le4 (h .n) ++ (le4 begin ++ (0 ∷ 0 ∷ 0 ∷ 0 ∷ []))
+    zero-last = ap (λ (l : List ℕ). 6 ∷ h .m ∷ h .td ∷ h .ti ∷ le4 (h .n) ++ (le4 begin ++ l)) (digits 0 0 0 0 (omega arith) (omega arith) (omega arith))

@@ -45,11 +45,11 @@ pub fn write_entry(card: &mut [u8], i: usize, e: Entry)
     lend(card, i, e.kind, e.key, e.stamp, e.value);
 }
 
-// The head of a card with no beginning, in sector 0.
-pub fn write_head(card: &mut [u8], h: Head)
+// The head of a card with its beginning, in sector 0.
+pub fn write_head(card: &mut [u8], h: Head, begin: u32)
     requires { ⌜ (16 ≤ length (now card)) × (h .m < 256) × (h .td < 256) × (h .ti < 256) × (h .n < 4294967296) ⌝ }
-    ensures { λ _. ⌜ now (card .exit) ≡ put (now (card .entry)) 0 (headBytes h 0) ⌝ }
+    ensures { λ _. ⌜ now (card .exit) ≡ put (now (card .entry)) 0 (headBytes h begin) ⌝ }
 {
     let first = 6 + 256 * h.m + 65536 * h.td + 16777216 * h.ti;
-    lend(card, 0, first as u32, h.n as u32, 0, 0);
+    lend(card, 0, first as u32, h.n as u32, begin, 0);
 }

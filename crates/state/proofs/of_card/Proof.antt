@@ -1,9 +1,9 @@
--- `state::of_card` meets its contract: 1 where the head is broken, else the head's numbers and the survey's.
-use mathlib.Core.Path.{ap₂, sym, _∙_}
+-- `state::of_card` meets its contract: 1 where the head is broken, else the head's numbers, its beginning and the survey's.
+use mathlib.Core.Path.{sym, _∙_}
 use native.Mathlib.Omega.{arith}
 use borrow.Author.Needs.{needs}
 use denote.Ref.{now}
-use Rattle.rules.specs.State.{stateOf}
+use Rattle.laws.proofs.Heads.{head-fits}
 use Rattle.laws.proofs.Used.{used-within}
 use Rattle.bucket.proofs.Room.{shape-of}
 use Rattle.walk.proofs.Walks.{broken-none, sound-some}
@@ -16,15 +16,21 @@ returns c =
     let read = c .before .before .before in
     c .no-state .ensures ∙ sym (no-head (now (read .before .before .args .card)) (broken-none _ (sym (read .read-head .ensures) ∙ c .before .enum-told .given .1)))
 
+beginning-requires : tie.Need-beginning-requires
+beginning-requires c κs =
+    let sound = c .before in
+    let read = sound .before .before in
+    head-fits _ _ (sound-some _ _ (sym (read .read-head .ensures) ∙ sound .layout .given .1))
+
 survey-requires : tie.Need-survey-requires
 survey-requires c κs =
-    let sound = c .before in
+    let sound = c .before .before in
     let read = sound .before .before in
     shape-of _ _ (sound-some _ _ (sym (read .read-head .ensures) ∙ sound .layout .given .1))
 
 state-of-requires : tie.Need-state-of-requires
 state-of-requires c κs =
-    let sound = c .before .before in
+    let sound = c .before .before .before in
     let read = sound .before .before in
     let shape = shape-of _ _ (sound-some _ _ (sym (read .read-head .ensures) ∙ sound .layout .given .1)) in
     let l = shape .lim in
@@ -33,14 +39,15 @@ state-of-requires c κs =
 
 returns-2 : tie.Need-returns-2
 returns-2 c =
-    let sound = c .before .before .before in
+    let begins = c .before .before in
+    let sound = begins .before .before in
     let read = sound .before .before in
     let head = sound-some _ _ (sym (read .read-head .ensures) ∙ sound .layout .given .1) in
     let area = c .before .survey .ensures in
-    c .state-of .ensures ∙ ap₂ (stateOf _) (area .0) (area .1) ∙ sym (with-head (now (read .before .before .args .card)) _ head)
+    c .state-of .ensures ∙ with-head (now (read .before .before .args .card)) _ head _ _ _ (begins .beginning .ensures) (area .0) (area .1)
 
 pub of-card-spec : {M : Type 1} → statement M
 of-card-spec =
     tie.close
     (tie.spec (λ c κs. search needs) (λ c. search needs) (λ c. search needs) (λ c κs. search needs) returns
-    survey-requires state-of-requires returns-2)
+    beginning-requires survey-requires state-of-requires returns-2)

@@ -10,7 +10,7 @@ returns : tie.Need-returns
 returns c =
     let at-lend = c .before .before in
     let o = at-lend .before .before .before .before .before .before .before in
-    at-lend .lend .ensures ∙ ap (put (o .args .card .now) 0) (head-words (o .args .h) (o .pre .1) (o .pre .2))
+    at-lend .lend .ensures ∙ ap (put (o .args .card .now) 0) (head-words (o .args .h) (o .args .begin) (o .pre .1) (o .pre .2))
 
 pub write-head-spec : {M : Type 1} → statement M
 write-head-spec =

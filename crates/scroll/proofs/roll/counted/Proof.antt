@@ -3,7 +3,8 @@ use borrow.Author.Needs.{needs}
 use mathlib.Core.Path.{_≡_}
 use Prim.Native.Nat.{_-_, _≤_}
 use denote.Ref.{now}
-use Rattle.scroll.specs.Records.{rolled, tallyOf}
+use Rattle.rules.specs.Records.{rolled}
+use Rattle.scroll.specs.Records.{tallyOf}
 use Rattle.scroll.proofs.Rolls.{tallyAfter, count-start, count-stop, count-more, count-end}
 use Rattle.scroll.proofs.roll.counted.Statement.{statement}
 use Rattle.scroll.proofs.roll.counted.Tie as tie

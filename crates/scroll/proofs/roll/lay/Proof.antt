@@ -8,7 +8,7 @@ use denote.Ref.{now}
 use Rattle.rules.specs.declared.Entry.{Entry}
 use Rattle.rules.specs.Sector.{put, encode}
 use Rattle.writer.specs.Rows.{puts}
-use Rattle.scroll.specs.Records.{rolled}
+use Rattle.rules.specs.Records.{rolled}
 use Rattle.scroll.proofs.Rolls.{lay-start, lay-stop, lay-more, lay-end}
 use Rattle.scroll.proofs.roll.lay.Statement.{statement}
 use Rattle.scroll.proofs.roll.lay.Tie as tie

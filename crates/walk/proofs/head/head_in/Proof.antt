@@ -9,16 +9,16 @@ returns : tie.Need-returns
 unfolding headIn layoutOf
 returns c =
     let last = c .before .before .before in
-    rw (← last .before .before .head-fields .ensures, ← last .before .read-word .ensures, ← last .read-word2 .ensures, ← c .before .keeps-layout .ensures, c .if1 .taken)
+    rw (← last .before .head-fields .ensures, ← last .read-word .ensures, ← c .before .keeps-layout .ensures, c .if1 .taken)
 
 returns-2 : tie.Need-returns-2
 unfolding headIn layoutOf
 returns-2 c =
     let last = c .before .before .before in
-    rw (← last .before .before .head-fields .ensures, ← last .before .read-word .ensures, ← last .read-word2 .ensures, ← c .before .keeps-layout .ensures, c .if1 .left)
+    rw (← last .before .head-fields .ensures, ← last .read-word .ensures, ← c .before .keeps-layout .ensures, c .if1 .left)
 
 pub head-in-spec : {M : Type 1} → statement M
 head-in-spec =
     tie.close
-    (tie.spec (λ c κs. search needs) (λ c κs. search needs) (λ c κs. search needs) (λ c. search needs)
+    (tie.spec (λ c κs. search needs) (λ c κs. search needs) (λ c. search needs)
     (λ c κs. search needs) returns returns-2)
