@@ -4,6 +4,7 @@ use Rattle.scroll.specs.Records.{given, recordsIn, recordsOf}
 use Rattle.cases.specs.Growing.{GrowsAsSaid}
 use Rattle.cases.specs.Session.{SessionAsSaid}
 use Rattle.cases.specs.Rolls.{RollsAsSaid}
+use Rattle.cases.specs.Seasons.{SeasonsAsSaid}
 
 pub growing-passes : GrowsAsSaid
 unfolding rules
@@ -16,3 +17,7 @@ session-passes = tt
 pub session-rolls : RollsAsSaid
 unfolding rules given recordsIn recordsOf
 session-rolls = tt
+
+pub seasons-pass : SeasonsAsSaid
+unfolding rules
+seasons-pass = tt

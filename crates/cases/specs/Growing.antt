@@ -9,20 +9,20 @@ use Rattle.rules.specs.Answers.{answer, refused}
 use Rattle.rules.specs.Calls.{Call, formatCall, postCall, strikeCall, lookCall}
 use Rattle.rules.proofs.Lines.{Line, anew, says, holds, logs, used, shows, passes}
 
-abbrev post : ℕ → ℕ → ℕ → Sector
+abbrev pub post : ℕ → ℕ → ℕ → Sector
 post bib at time = Held (postEntry bib at time)
 
-abbrev strike : ℕ → ℕ → Sector
+abbrev pub strike : ℕ → ℕ → Sector
 strike bib at = Held (strikeEntry bib at)
 
-abbrev index : ℕ → ℕ → ℕ → Sector
+abbrev pub index : ℕ → ℕ → ℕ → Sector
 index key at bucket = Held (indexEntry key at bucket)
 
-abbrev root : ℕ → ℕ → Sector
+abbrev pub root : ℕ → ℕ → Sector
 root at bucket = Held (rootEntry at bucket)
 
 -- an accepted call
-abbrev ok : Call → Line
+abbrev pub ok : Call → Line
 ok k = says k (answer 0 0 0 0 0)
 
 abbrev nothing : List ℕ

@@ -1,3 +1,4 @@
 pub mod Growing
 pub mod Session
 pub mod Rolls
+pub mod Seasons

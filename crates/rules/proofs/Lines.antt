@@ -1,4 +1,4 @@
--- A list of lines that the rules are held to: calls with their answers, buckets with their sectors, times with their digits.
+-- A list of lines that the rules are held to: calls with their answers, season cards, buckets with their sectors, times with their digits.
 use Prim.Native.Nat.{ℕ, suc}
 use mathlib.Core.Bool.{Bool, true, false}
 use mathlib.Core.List.{List, [], _∷_}
@@ -13,19 +13,22 @@ use Rattle.rules.specs.declared.State.{State}
 use Rattle.rules.specs.Plain.{_&_}
 use Rattle.rules.specs.Sector.{sectorAt, put, decode}
 use Rattle.rules.specs.Layout.{headOf, base}
-use Rattle.rules.specs.Write.{topUsed}
+use Rattle.rules.specs.Write.{topUsed, planAnswer, planCard}
+use Rattle.rules.specs.Season.{season}
 use Rattle.rules.specs.State.{state}
 use Rattle.rules.specs.Batch.{batch}
 use Rattle.rules.specs.Panel.{panel}
 use Rattle.rules.specs.Calls.{Call}
 use Rattle.rules.specs.Bench.{benchCall}
 
--- no card any more; a call and its answer; other bytes in a sector; a call and its answer on the card with other bytes in a sector;
+-- no card any more; a call and its answer; a season card on a target as of a stamp, with buckets, sectors, TD, TI and the number it answers,
+-- which is the card from then on; other bytes in a sector; a call and its answer on the card with other bytes in a sector;
 -- a bucket and its m sectors; the log's first sectors; a sector's bytes; the highest bucket written; the state's eight numbers; a batch's requests
 -- and places, its number and answers; a time, a field, the number and places it gives
 pub data Line : Type 0 where
   anew : Line
   says : Call → Answer → Line
+  goesOn : List ℕ → ℕ → ℕ → ℕ → ℕ → ℕ → ℕ → Line
   writes : ℕ → List ℕ → Line
   spoilt : ℕ → List ℕ → Call → Answer → Line
   holds : ℕ → List Sector → Line
@@ -84,6 +87,7 @@ numbersOf s = s .code ∷ s .buckets ∷ s .sectors ∷ s .td ∷ s .ti ∷ s .b
 unfoldable pub right : List ℕ → Line → Bool
 right card anew = true
 right card (says k a) = sameAnswer (benchCall card k .answer) a
+right card (goesOn target t n m td ti c) = eqb (planAnswer (season card t target n m td ti) .code) c
 right card (writes i bs) = true
 right card (spoilt i bs k a) = sameAnswer (benchCall (put card i bs) k .answer) a
 right card (holds b ss) = holdsIn card (headOf card) b ss
@@ -97,6 +101,7 @@ right card (shows time field c ps) = sameDigits (panel time field) c ps
 unfoldable pub cardNext : List ℕ → Line → List ℕ
 cardNext card anew = []
 cardNext card (says k a) = benchCall card k .card
+cardNext card (goesOn target t n m td ti c) = planCard card (season card t target n m td ti)
 cardNext card (writes i bs) = put card i bs
 cardNext card (spoilt i bs k a) = card
 cardNext card (holds b ss) = card

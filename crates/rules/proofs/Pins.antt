@@ -1,15 +1,16 @@
 -- What cases (a) to (h) leave open: the bytes themselves, the defaults, the limits, each refusal in its order, each kind of damage,
--- the strike just added, and a card with a beginning. One statement over one list, which the checker computes.
-use Prim.Native.Nat.{ℕ}
+-- the strike just added, and cards with a beginning. One statement over one list, which the checker computes.
+use Prim.Native.Nat.{ℕ, _+_, _*_}
 use mathlib.Core.List.{List, [], _∷_, _++_}
 use lib.Dec.{T}
+use lib.ListN.{replicate}
 use Rattle.rules.proofs.Opened.{rules}
 use Rattle.rules.specs.declared.Sector.{Sector}
 use Rattle.rules.specs.declared.Sector.the-variants.{Blank, Held}
-use Rattle.rules.specs.Sector.{postEntry, strikeEntry, indexEntry, rootEntry}
+use Rattle.rules.specs.Sector.{put, postEntry, strikeEntry, indexEntry, rootEntry}
 use Rattle.rules.specs.Answers.{answer, refused}
 use Rattle.rules.specs.Calls.{Call, formatCall, postCall, strikeCall, lookCall, nextCall}
-use Rattle.rules.proofs.Lines.{Line, anew, says, writes, spoilt, holds, logs, bytes, used, tells, loads, shows, passes}
+use Rattle.rules.proofs.Lines.{Line, anew, says, goesOn, writes, spoilt, holds, logs, bytes, used, tells, loads, shows, passes}
 
 abbrev ok : Call → Line
 ok k = says k (answer 0 0 0 0 0)
@@ -256,6 +257,54 @@ begun =
     ∷ ok (postCall 1 8 1)
     ∷ []
 
+-- a blank target of n buckets of four sectors, and one with a byte written
+abbrev blank : ℕ → List ℕ
+blank n = replicate (16 * (1 + n * 5)) 0
+
+abbrev soiled : ℕ → List ℕ
+soiled n = put (blank n) n (raw 0 0 0 0 1)
+
+-- a card of three records goes on: the dummy and two of them fill a bucket, the third lies alone, and a level above is root. Copied again
+-- it is the same; with nothing standing there is a level above the dummy too. Each refusal in its order
+abbrev seasons : List Line
+seasons =
+    anew
+    ∷ goesOn [] 0 3 4 0 0 1
+    ∷ ok (formatCall 2 4 3 4)
+    ∷ ok (postCall 8 10 61)
+    ∷ ok (postCall 3 20 58)
+    ∷ ok (postCall 11 30 59)
+    ∷ goesOn (blank 2) 30 2 4 0 0 6
+    ∷ goesOn (blank 3) 30 3 4 2 0 0
+    ∷ bytes 0 (headFrom 4 2 4 3 30)
+    ∷ logs (Held (rootEntry 30 3) ∷ Blank ∷ Blank ∷ [])
+    ∷ holds 1 (Held (strikeEntry 0 0) ∷ Held (postEntry 3 20 58) ∷ Held (postEntry 8 10 61) ∷ Blank ∷ [])
+    ∷ holds 2 (Held (postEntry 11 30 59) ∷ Blank ∷ Blank ∷ Blank ∷ [])
+    ∷ holds 3 (index 0 30 1 ∷ index 11 30 2 ∷ Blank ∷ Blank ∷ [])
+    ∷ tells (0 ∷ 3 ∷ 4 ∷ 2 ∷ 4 ∷ 30 ∷ 30 ∷ 3 ∷ [])
+    ∷ says (lookCall 8 30) (answer 0 8 10 61 2)
+    ∷ says (nextCall 8 30) (answer 0 11 30 59 0)
+    ∷ says (postCall 1 30 1) (refused 3)
+    -- 13 ahead of 8, 8 ahead of 9, 9 ahead of 4, 4 ahead of 6
+    ∷ goesOn [] 29 3 4 0 0 13
+    ∷ goesOn (soiled 3) 30 2 4 0 0 8
+    ∷ goesOn (blank 3) 30 3 4 0 3 8
+    ∷ goesOn (blank 4) 30 4 4 0 0 0
+    ∷ logs (Held (rootEntry 30 3) ∷ Blank ∷ [])
+    ∷ holds 3 (index 0 30 1 ∷ index 11 30 2 ∷ Blank ∷ Blank ∷ [])
+    ∷ writes 9 (raw 7 0 0 0 0)
+    ∷ goesOn (soiled 2) 30 2 4 0 0 9
+    ∷ goesOn (blank 2) 30 2 4 0 0 4
+    ∷ anew
+    ∷ ok (formatCall 2 4 3 4)
+    ∷ ok (postCall 8 10 61)
+    ∷ goesOn (blank 2) 9 2 4 0 0 0
+    ∷ bytes 0 (headFrom 4 3 4 2 9)
+    ∷ logs (Held (rootEntry 9 2) ∷ Blank ∷ [])
+    ∷ holds 1 (Held (strikeEntry 0 0) ∷ Blank ∷ Blank ∷ Blank ∷ [])
+    ∷ holds 2 (index 0 9 1 ∷ Blank ∷ Blank ∷ Blank ∷ [])
+    ∷ []
+
 -- "field not 4, 5 or 6 digits, or time too long": a lap of 1:12.40 is not 12.40; and no thousandth is lost
 abbrev nothing : List ℕ
 nothing = 0 ∷ 0 ∷ 0 ∷ 0 ∷ 0 ∷ 0 ∷ []
@@ -274,7 +323,7 @@ fields =
     ∷ []
 
 abbrev pub pins : List Line
-pins = defaults ++ (limits ++ (two ++ (damage ++ (rewritten ++ (passedOver ++ (batches ++ (begun ++ fields)))))))
+pins = defaults ++ (limits ++ (two ++ (damage ++ (rewritten ++ (passedOver ++ (batches ++ (begun ++ (seasons ++ fields))))))))
 
 pub pins-pass : T (passes [] pins)
 unfolding rules
