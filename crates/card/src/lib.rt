@@ -1,4 +1,4 @@
-// The card for C and Rust: the six calls, the batch, the scroll's records and the card's state, exported. Each takes every input, and its contract is the rule.
+// The card for C and Rust: the six calls, the batch, the season card, the scroll's records and the card's state, exported. Each takes every input, and its contract is the rule.
 use rules::Answer;
 use rules::Digits;
 use rules::State;
@@ -13,6 +13,7 @@ ghost use Rattle.rules.specs.State.{state};
 ghost use Rattle.rules.specs.Batch.{batch};
 ghost use Rattle.rules.specs.Format.{format};
 ghost use Rattle.rules.specs.Write.{planAnswer, planCard, post, strike};
+ghost use Rattle.rules.specs.Season.{season};
 ghost use Rattle.writer.specs.Rows.{puts};
 ghost use Rattle.scroll.specs.Records.{recordsOf, tallyOf};
 
@@ -53,6 +54,22 @@ pub extern "C" fn card_batch(card: &mut [u8], requests: &[u8], answers: &mut [u8
     ensures { λ _. ⌜ now (answers .exit) ≡ batch (now (card .entry)) (now (requests .entry)) (now (answers .entry)) .answers ⌝ }
 {
     batch::batch(card, requests, answers)
+}
+
+#[no_mangle]
+pub extern "C" fn card_season(
+    card: &[u8],
+    at: u32,
+    target: &mut [u8],
+    buckets: u32,
+    sectors: u32,
+    td: u32,
+    ti: u32,
+) -> u32
+    ensures { λ r. ⌜ r ≡ planAnswer (season (now (card .entry)) at (now (target .entry)) buckets sectors td ti) .code ⌝ }
+    ensures { λ _. ⌜ now (target .exit) ≡ planCard (now (target .entry)) (season (now (card .entry)) at (now (target .entry)) buckets sectors td ti) ⌝ }
+{
+    season::season(card, at, target, buckets, sectors, td, ti)
 }
 
 #[no_mangle]

@@ -32,7 +32,7 @@ pub struct Needs {
     pub root: bool,
 }
 
-fn first_sector(head: Head, b: usize) -> usize
+pub fn first_sector(head: Head, b: usize) -> usize
     requires { ⌜ (head .m ≤ 32) × (head .n ≤ 4096) × (1 ≤ b) × (b ≤ head .n) ⌝ }
     ensures { λ r. ⌜ r ≡ base head b ⌝ }
 {
