@@ -39,5 +39,4 @@ RollsAsSaid = T
     & same (numbers (rolled (cardAfter [] calls) 50 2 0)) (0 ∷ 3 ∷ 20 ∷ 58900 ∷ 5 ∷ 40 ∷ 60000 ∷ [])
     & same (numbers (recordsOf (cardAfter [] calls) 50 0 0)) (0 ∷ [])
     & same (numbers (recordsOf [] 50 0 0)) (1 ∷ [])
-    & same (numbers (recordsOf begunAt50 49 0 0)) (13 ∷ [])
-    & same (numbers (recordsOf begunAt50 50 1 3)) (0 ∷ 5 ∷ 40 ∷ 60000 ∷ []))
+    & same (numbers (recordsOf begunAt50 49 0 0)) (13 ∷ []))

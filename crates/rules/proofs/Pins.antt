@@ -257,6 +257,23 @@ begun =
     ∷ ok (postCall 1 8 1)
     ∷ []
 
+-- "field not 4, 5 or 6 digits, or time too long": a lap of 1:12.40 is not 12.40; and no thousandth is lost
+abbrev nothing : List ℕ
+nothing = 0 ∷ 0 ∷ 0 ∷ 0 ∷ 0 ∷ 0 ∷ []
+
+abbrev fields : List Line
+fields =
+    shows 0 3 7 nothing
+    ∷ shows 0 7 7 nothing
+    ∷ shows 0 4 0 nothing
+    ∷ shows 1 4 0 (0 ∷ 0 ∷ 0 ∷ 1 ∷ 0 ∷ 0 ∷ [])
+    ∷ shows 10 4 0 (0 ∷ 0 ∷ 0 ∷ 1 ∷ 0 ∷ 0 ∷ [])
+    ∷ shows 11 4 0 (0 ∷ 0 ∷ 0 ∷ 2 ∷ 0 ∷ 0 ∷ [])
+    ∷ shows 19 4 0 (0 ∷ 0 ∷ 0 ∷ 2 ∷ 0 ∷ 0 ∷ [])
+    ∷ shows 72400 4 7 nothing
+    ∷ shows 4294967295 6 7 nothing
+    ∷ []
+
 -- a blank target of n buckets of four sectors, and one with a byte written
 abbrev blank : ℕ → List ℕ
 blank n = replicate (16 * (1 + n * 5)) 0
@@ -305,25 +322,8 @@ seasons =
     ∷ holds 2 (index 0 9 1 ∷ Blank ∷ Blank ∷ Blank ∷ [])
     ∷ []
 
--- "field not 4, 5 or 6 digits, or time too long": a lap of 1:12.40 is not 12.40; and no thousandth is lost
-abbrev nothing : List ℕ
-nothing = 0 ∷ 0 ∷ 0 ∷ 0 ∷ 0 ∷ 0 ∷ []
-
-abbrev fields : List Line
-fields =
-    shows 0 3 7 nothing
-    ∷ shows 0 7 7 nothing
-    ∷ shows 0 4 0 nothing
-    ∷ shows 1 4 0 (0 ∷ 0 ∷ 0 ∷ 1 ∷ 0 ∷ 0 ∷ [])
-    ∷ shows 10 4 0 (0 ∷ 0 ∷ 0 ∷ 1 ∷ 0 ∷ 0 ∷ [])
-    ∷ shows 11 4 0 (0 ∷ 0 ∷ 0 ∷ 2 ∷ 0 ∷ 0 ∷ [])
-    ∷ shows 19 4 0 (0 ∷ 0 ∷ 0 ∷ 2 ∷ 0 ∷ 0 ∷ [])
-    ∷ shows 72400 4 7 nothing
-    ∷ shows 4294967295 6 7 nothing
-    ∷ []
-
 abbrev pub pins : List Line
-pins = defaults ++ (limits ++ (two ++ (damage ++ (rewritten ++ (passedOver ++ (batches ++ (begun ++ (seasons ++ fields))))))))
+pins = defaults ++ (limits ++ (two ++ (damage ++ (rewritten ++ (passedOver ++ (batches ++ (begun ++ (fields ++ seasons))))))))
 
 pub pins-pass : T (passes [] pins)
 unfolding rules
