@@ -17,7 +17,7 @@ use Rattle.rules.specs.Layout.{headOf}
 use Rattle.rules.specs.Plain.{zeros}
 use Rattle.rules.specs.Sector.{sectorAt, fields, isPost}
 use Rattle.rules.specs.Write.{Plan, refuse, accept, refuseIf, planAnswer, planCard, plan, stampOn}
-use Rattle.rules.specs.Batch.{Batch, wellAsked, request, requestFor, requestsIn, cardOf, answersTo, paired, batch}
+use Rattle.rules.specs.Batch.{wellAsked, request, requestFor, requestsIn, cardOf, answersTo, paired, batch}
 use Rattle.laws.proofs.Tools.{and-true, bool-cases}
 use Rattle.laws.proofs.Bytes.{Bytes}
 use Rattle.laws.proofs.Entries.{Asks}

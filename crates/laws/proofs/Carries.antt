@@ -2,25 +2,25 @@
 use mathlib.Core.Path.{_∙_, _≡_, ap, ap₂, refl, sym, subst}
 use mathlib.Core.Logic.{_⊎_, inl, inr, ⊎-elim}
 use mathlib.Core.Bool.{Bool, false, not, true}
-use mathlib.Core.Option.{none, some}
+use mathlib.Core.Option.{some}
 use Prim.Native.Nat.{_*_, _+_, _-_, _/_, _<_, _≤_, suc, zero, ℕ}
 use native.Mathlib.Omega.{arith}
 use mathlib.Core.List.{List, [], _++_, _∷_, append-assoc}
-use lib.ListN.{drop, getD, length, take, length-append, length-take, length-drop, take-append-drop}
+use lib.ListN.{drop, length, take, length-append, length-take, length-drop, take-append-drop}
 use lib.Dec.{leb, ltb, eqb}
-use borrow.Author.Tests.{eq-eqb, eqb-true, leb-true, ltb-true, ltb-false}
+use borrow.Author.Tests.{eq-eqb, leb-true, ltb-true, ltb-false}
 use Rattle.rules.specs.declared.Entry.{Entry}
 use Rattle.rules.specs.declared.Head.{Head}
 use Rattle.rules.specs.Bucket.{blanks, blanksOf, bucket, logBlanks, unwritten, soundBucket}
-use Rattle.rules.specs.Layout.{base, beginning, headFields, headIn, headOf, limits, sizeOf}
+use Rattle.rules.specs.Layout.{base, beginning, headOf, sizeOf}
 use Rattle.rules.specs.Plain.{_&_, _or_, if, zeros}
 use Rattle.rules.specs.Rewrite.{Rise, fill, into, kept, keyOf, lastCopies, limitOf, oneBucket, pair, renew, twoBuckets}
 use Rattle.rules.specs.Sector.{isIndex, rootEntry, sectorAt, word}
-use Rattle.rules.specs.Walk.{Visit, walk, copyOf}
+use Rattle.rules.specs.Walk.{Visit, walk}
 use Rattle.rules.specs.Write.{accept, climb, finish, latest, logFull, logged, place, placeIf, plan, planOn, rooted, stampOn, topUsed}
-use Rattle.laws.proofs.Tools.{and-true, bool-cases, eq-or-ne, guard-true, le-or-lt, none-some, true-false}
+use Rattle.laws.proofs.Tools.{bool-cases, eq-or-ne, none-some}
 use Rattle.laws.proofs.Lists.{All, all-append, all-left, all-map, all-right, copy-all, copy-snoc-same}
-use Rattle.laws.proofs.Mems.{Mem, mem-all, all-mem, mem-left, mem-right, mem-parts, mem-only}
+use Rattle.laws.proofs.Mems.{Mem, mem-all, all-mem, mem-right, mem-parts, mem-only}
 use Rattle.laws.proofs.Run.{Agree, run-agree}
 use Rattle.laws.proofs.Entries.{Fine, Good, Asks, asks-fine, pair-fine}
 use Rattle.laws.proofs.Buckets.{bucket-in, bucket-raw, bucket-within, bucket-length, buckets-clear, raw}
@@ -30,15 +30,14 @@ use Rattle.laws.proofs.Copies.{copies-says}
 use Rattle.laws.proofs.Halves.{kept-all, kept-length}
 use Rattle.laws.proofs.Heads.{Lim, head-facts, head-same, head-written}
 use Rattle.laws.proofs.Into.{block-agree, block-else, block-raw, block-size}
-use Rattle.laws.proofs.Fresh.{climb-mono, freshAfter, placeIf-fresh, rooted-fresh}
+use Rattle.laws.proofs.Fresh.{freshAfter, placeIf-fresh, rooted-fresh}
 use Rattle.laws.proofs.Paths.{walk-reads, walk-some}
 use Rattle.laws.proofs.Plans.{checked-inv, plan-inv, plan-walk}
 use Rattle.laws.proofs.AsMet.{along-right, as-met}
 use Rattle.laws.proofs.Stamps.{run-stamps, top-ge}
-use Rattle.laws.proofs.Used.{run-blank, top-blank, top-raw, unwritten-each, used-top, used-within}
+use Rattle.laws.proofs.Used.{run-blank, top-blank, top-raw, unwritten-each}
 use Rattle.laws.proofs.Writes.{call-puts, top-after}
 use Rattle.laws.proofs.Puts.{Changed, chain-size, puts-sector}
-use Rattle.laws.proofs.Zeros.{zeros-get}
 
 unwritten-agree : (a b : List ℕ) (i c : ℕ) → Agree a b i c → unwritten a i c ≡ unwritten b i c
 unfolding unwritten

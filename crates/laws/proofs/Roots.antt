@@ -20,7 +20,7 @@ use Rattle.rules.specs.Write.{accept, climb, finish, latest, logFull, logged, p
 use Rattle.laws.proofs.Lists.{last-snoc, only-append}
 use Rattle.laws.proofs.Entries.{Fine, root-fine}
 use Rattle.laws.proofs.Bytes.{Bytes}
-use Rattle.laws.proofs.Heads.{Lim, head-facts}
+use Rattle.laws.proofs.Heads.{head-facts}
 use Rattle.laws.proofs.Into.{block-front, block-size}
 use Rattle.laws.proofs.Logs.{log-blanks-same, log-grows, log-same}
 use Rattle.laws.proofs.Fresh.{climb-mono, freshAfter, rooted-fresh}

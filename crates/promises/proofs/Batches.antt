@@ -19,7 +19,7 @@ use Rattle.laws.proofs.Requests.{request-encode}
 use Rattle.laws.proofs.Sectors.{sector-front, sector-behind}
 use Rattle.laws.proofs.Tools.{true-and}
 use Rattle.promises.specs.Calls.{Asks, EachSized, oneByOne, numbers}
-use Rattle.promises.specs.Promises.{BatchIsOneByOne, BatchCutInTwo, RefusedDoesNotStop, FitsBatch, BatchIsSettled}
+use Rattle.promises.specs.Promises.{BatchIsOneByOne, BatchCutInTwo, RefusedDoesNotStop, BatchIsSettled}
 use Rattle.promises.proofs.Settled.{plan-same}
 
 -- as many requests as places

@@ -2,7 +2,7 @@
 use mathlib.Core.Path.{_≡_, refl, ap, sym, _∙_, subst}
 use mathlib.Core.Logic.{_⊎_, ⊎-elim}
 use mathlib.Core.Bool.{Bool, true, false}
-use mathlib.Core.Option.{Option, none, some}
+use mathlib.Core.Option.{some}
 use mathlib.Core.List.{List, [], _∷_}
 use Prim.Native.Nat.{ℕ, _+_, _-_, _≤_, _<_}
 use native.Mathlib.Omega.{arith}
@@ -14,10 +14,10 @@ use Rattle.rules.specs.declared.Head.{Head}
 use Rattle.rules.specs.Plain.{if, _&_, _or_}
 use Rattle.rules.specs.Layout.{headOf}
 use Rattle.rules.specs.Bucket.{bucket, log, logBlanks}
-use Rattle.rules.specs.Walk.{Visit, walk, pathIn}
+use Rattle.rules.specs.Walk.{Visit, walk}
 use Rattle.rules.specs.Rewrite.{Rise, oneBucket}
 use Rattle.rules.specs.Write.{refuse, accept, refuseIf, climb, rooted, logged, logFull, checked, finish, planOn, topUsed, latest}
-use Rattle.laws.proofs.Tools.{none-some, le-or-lt, eq-or-ne}
+use Rattle.laws.proofs.Tools.{le-or-lt, eq-or-ne}
 use Rattle.laws.proofs.Run.{blanks-agree}
 use Rattle.laws.proofs.Paths.{Along, along-map, walk-reads, walk-log}
 use Rattle.laws.proofs.Used.{used-top, top-raw}

@@ -3,8 +3,7 @@ use borrow.Author.Needs.{needs}
 use mathlib.Core.Path.{sym, _∙_, ap, subst}
 use native.Mathlib.Omega.{arith}
 use denote.Ref.{now}
-use Rattle.rules.specs.Sector.{sectorAt, fields}
-use Rattle.rules.specs.declared.Entry.{Entry}
+use Rattle.rules.specs.Sector.{sectorAt}
 use Rattle.rules.specs.Write.{plan}
 use Rattle.laws.proofs.Entries.{Asks}
 use Rattle.laws.proofs.Bytes.{get-bytes, bytes-sector}

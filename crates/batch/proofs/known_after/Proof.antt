@@ -1,5 +1,4 @@
 -- `batch::known_after`: what the first request told, or what a survey tells.
-use borrow.Author.Needs.{needs}
 use denote.Ref.{now}
 use Rattle.bucket.proofs.Room.{shape-of}
 use Rattle.batch.proofs.known_after.Statement.{statement}

@@ -1,6 +1,5 @@
 -- `sector::blank_at`: sixteen bytes are zero where their four words are.
 use denote.Ref.{now}
-use Rattle.rules.specs.Sector.{sectorAt}
 use Rattle.scan.proofs.Words.{zeros-words}
 use borrow.Author.Needs.{needs}
 use Rattle.sector.proofs.blank_at.Statement.{statement}
