@@ -52,6 +52,24 @@ dummy-none : (x : ℕ) → standing (copyOf x (dummy ∷ [])) ≡ none
 unfolding standing copyOf only lastOf isPost
 dummy-none x = elim (eqb 0 x) as (λ b. standing (lastOf (keepIf b dummy [])) ≡ none) [ true ↦ refl | false ↦ refl ]
 
+-- a head's bytes are bytes
+pub bytes-head : (h : Head) (begin : ℕ) → h .n ≤ 4096 → h .m ≤ 32 → h .td ≤ h .m → h .ti ≤ h .m → begin < 4294967296 → Bytes (headBytes h begin)
+unfolding headBytes
+bytes-head h begin n4096 m32 tdm tim small = (
+  omega arith,
+  (
+    omega arith,
+    (
+      omega arith,
+      (
+        omega arith,
+        bytes-append (le4 (h .n)) (le4 begin ++ (0 ∷ 0 ∷ 0 ∷ 0 ∷ [])) (bytes-le4 (h .n) (omega arith))
+            (bytes-append (le4 begin) (0 ∷ 0 ∷ 0 ∷ 0 ∷ []) (bytes-le4 begin small) (omega arith, (omega arith, (omega arith, (omega arith, tt))))),
+      ),
+    ),
+  ),
+)
+
 module _ (h : Head) (lim : limits h ≡ true) (card : List ℕ) (size : sizeOf h ≡ length card) (bytes0 : Bytes card)
     (front0 : (j : ℕ) → j < 1 + h .n → zeros (sectorAt card j) ≡ true) (blank0 : (c : ℕ) → 1 ≤ c → c ≤ h .n → raw h card c ≡ some [])
     (stamps0 : (j : ℕ) → 1 + h .n ≤ j → stampOf (sectorAt card j) ≡ 0) (room1 : 1 ≤ length (blanksOf h card 1)) (room2 : 1 ≤ length (blanksOf h card 2))
@@ -75,28 +93,11 @@ module _ (h : Head) (lim : limits h ≡ true) (card : List ℕ) (size : sizeOf h
   len2 : length card2 ≡ length card
   len2 = length-put card1 1 (encode root) (length-encode root) (omega (arith, big, len1)) ∙ len1
 
-  bytes-head : Bytes (headBytes h 0)
-  unfolding headBytes
-  bytes-head = (
-    omega arith,
-    (
-      omega arith,
-      (
-        omega arith,
-        (
-          omega arith,
-          bytes-append (le4 (h .n)) (le4 0 ++ (0 ∷ 0 ∷ 0 ∷ 0 ∷ [])) (bytes-le4 (h .n) (omega arith))
-              (bytes-append (le4 0) (0 ∷ 0 ∷ 0 ∷ 0 ∷ []) (bytes-le4 0 (omega arith)) (omega arith, (omega arith, (omega arith, (omega arith, tt))))),
-        ),
-      ),
-    ),
-  )
-
   fine-root : Fine (h .n) root
   fine-root = root-fine (h .n) 0 1 (omega arith) (omega arith) (omega arith) n4096
 
   bytes2 : Bytes card2
-  bytes2 = bytes-put card1 1 (encode root) (bytes-put card 0 (headBytes h 0) bytes0 bytes-head) (bytes-encode root (fine-root .0))
+  bytes2 = bytes-put card1 1 (encode root) (bytes-put card 0 (headBytes h 0) bytes0 (bytes-head h 0 n4096 m32 tdm tim (omega arith))) (bytes-encode root (fine-root .0))
 
   -- what the format writes first leaves the rest as it was
   same1 : (j : ℕ) → 1 ≤ j → sectorAt card1 j ≡ sectorAt card j

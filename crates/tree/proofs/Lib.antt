@@ -15,3 +15,6 @@ pub mod Found
 pub mod Hops
 pub mod Keeps
 pub mod Begin
+pub mod Rows
+pub mod Towers
+pub mod Seasoned
