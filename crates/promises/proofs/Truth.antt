@@ -84,7 +84,7 @@ calls-next h card f calls s k t lt =
     let es = accepted card calls in
     let kept = calls-keep h card f calls s in
     let n = keeps-next h (cardAfter card calls) (after (λ z. nothing) es) 0 (lastStamp 0 es) (kept .0) k t (omega arith) lt in
-    (n .0, n .1, found-ext (after (λ z. nothing) es t) (λ x. standsAsOf t x es) k 0 4294967296 (n .0) (after-plain es t) (n .2))
+    (n .0, n .1, found-ext (after (λ z. nothing) es t) (λ x. standsAsOf t x es) k 0 4294967296 (n .0) (λ x lo hi. after-plain es t x) (n .2))
 
 pub next-tells-the-truth : NextTellsTheTruth
 next-tells-the-truth h card f calls s k t lt =

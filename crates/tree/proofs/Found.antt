@@ -73,7 +73,7 @@ lasts-all P y (d ∷ es) e a q =
     last-case z false t w = absurd (none-some w)
 
 -- the smallest of a list
-smallest-all : (P : Entry → Type 0) (es : List Entry) (d : Entry) → All P es → smallest es ≡ some d → P d
+pub smallest-all : (P : Entry → Type 0) (es : List Entry) (d : Entry) → All P es → smallest es ≡ some d → P d
 unfolding smallest smaller
 smallest-all P [] d a q = absurd (none-some q)
 smallest-all P (e ∷ es) d a q =
@@ -198,6 +198,10 @@ found-one g k high r q (inr a) (inr b) =
     (λ (gt : b .0 .key < a .0 .key). absurd (none-some (sym (a .5 (b .0 .key) (omega arith) (b .2) gt) ∙ b .4)))
     (le-or-lt (a .0 .key) (b .0 .key))
 
-pub found-ext : (g g' : ℕ → Option Entry) (k low high : ℕ) (r : Option Entry) → ((x : ℕ) → g x ≡ g' x) → Found g k low high r → Found g' k low high r
-found-ext g g' k low high r same (inl a) = inl (a .0, λ y l h ky. sym (same y) ∙ a .1 y l h ky)
-found-ext g g' k low high r same (inr a) = inr (a .0, a .1, a .2, a .3, sym (same (a .0 .key)) ∙ a .4, λ y l ky ye. sym (same y) ∙ a .5 y l ky ye)
+-- and only the bibs above k matter
+pub found-ext : (g g' : ℕ → Option Entry) (k low high : ℕ) (r : Option Entry) → ((x : ℕ) → k < x → x < high → g x ≡ g' x) → Found g k low high r
+    → Found g' k low high r
+found-ext g g' k low high r same (inl a) = inl (a .0, λ y l h ky. sym (same y ky h) ∙ a .1 y l h ky)
+found-ext g g' k low high r same (inr a) =
+    let up = a .3 in
+    inr (a .0, a .1, a .2, a .3, sym (same (a .0 .key) (a .2) (a .3)) ∙ a .4, λ y l ky ye. sym (same y ky (omega arith)) ∙ a .5 y l ky ye)

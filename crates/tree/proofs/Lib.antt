@@ -18,3 +18,4 @@ pub mod Begin
 pub mod Rows
 pub mod Towers
 pub mod Seasoned
+pub mod Standing
