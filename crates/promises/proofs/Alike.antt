@@ -1,38 +1,36 @@
--- Two cards formatted alike whose accepted entries agree up to t answer alike as of t.
+-- Two cards begun alike whose accepted entries agree up to t answer alike as of t.
 use mathlib.Core.Option.{Option, some}
 use Prim.Native.Nat.{ℕ, _≤_, _<_}
-use mathlib.Core.Path.{refl, sym, ap, ap₂, subst, _∙_, _≡_}
+use mathlib.Core.Path.{refl, sym, ap, subst, _∙_, _≡_}
 use mathlib.Core.Logic.{⊎-elim}
-use mathlib.Core.List.{List, [], _∷_}
+use mathlib.Core.List.{List, [], _∷_, _++_}
 use lib.ListN.{length}
 use native.Mathlib.Omega.{arith}
 use Rattle.rules.specs.declared.Entry.{Entry}
 use Rattle.rules.specs.declared.Head.{Head}
-use Rattle.rules.specs.Layout.{headOf, beginning, sizeOf}
+use Rattle.rules.specs.Layout.{headOf, beginning}
 use Rattle.rules.specs.Walk.{Visit, standsOn, dataOf, walk, left}
 use Rattle.rules.specs.Next.{next}
 use Rattle.rules.specs.Look.{lookOn, lookIn, look}
 use Rattle.rules.specs.Write.{accept}
-use Rattle.rules.specs.Format.{format, formatted, meant}
 use Rattle.laws.proofs.Lists.{All, all-map}
 use Rattle.laws.proofs.Tools.{le-or-lt}
-use Rattle.laws.proofs.Zeros.{zero-eq}
 use Rattle.laws.proofs.Left.{left-past, left-keep}
 use Rattle.tree.proofs.AsOf.{Alike}
-use Rattle.tree.proofs.Begin.{format-inv, nothing}
+use Rattle.tree.proofs.Seasoned.{said}
 use Rattle.tree.proofs.Keeps.{Keeps, keeps-passed, keeps-wrote, keeps-step, more}
 use Rattle.tree.proofs.Tree.{some-inj}
 use Rattle.tree.proofs.Walks.{walk-late, alike-length, alike-data, alike-refl, alike-trans}
 use Rattle.tree.proofs.Climb.{upd}
 use Rattle.promises.specs.Promises.{CardsAnswerAlike}
-use Rattle.tree.proofs.Found.{Found, found-one}
+use Rattle.tree.proofs.Found.{found-ext, found-one}
 use Rattle.tree.proofs.Hops.{given}
-use Rattle.promises.specs.Calls.{Formatted, Act, AllSized, cardAfter, accepted}
-use Rattle.promises.specs.Reading.{upTo, lastFor, ifPost, standsAsOf}
-use Rattle.promises.proofs.Numbers.{formatted-plan}
-use Rattle.promises.proofs.Reading.{up-to-left}
+use Rattle.promises.specs.Calls.{Act, AllSized, cardAfter, accepted}
+use Rattle.promises.specs.Reading.{upTo, standsAsOf}
+use Rattle.promises.proofs.Begun.{Starts, alike-starts}
+use Rattle.promises.proofs.Reading.{up-to-left, stands-agree}
 use Rattle.promises.proofs.Since.{Since, since-keeps, calls-since}
-use Rattle.promises.proofs.Truth.{formatted-keeps, formatted-head, calls-next}
+use Rattle.promises.proofs.Truth.{calls-next, look-before, next-before}
 
 accept-inj : (c d : List ℕ) → accept c ≡ accept d → c ≡ d
 accept-inj c d e = cc
@@ -43,14 +41,6 @@ same-card c [] d b p q = sym p ∙ q
 same-card c (e ∷ es) d b p q =
     let new : q .0 ≡ p .0 = accept-inj (q .0) (p .0) (sym (q .2) ∙ p .2) in
     same-card (p .0) es d b (p .3) (subst (λ z. Since z es b) new (q .3))
-
-same-format : (h : Head) (c d : List ℕ) → Formatted h c → Formatted h d → c ≡ d
-unfolding format
-same-format h c d f e =
-    let a = format-inv (f .0) (meant (f .1) (f .2) (f .3) (f .4)) c (formatted-plan h c f) in
-    let b = format-inv (e .0) (meant (e .1) (e .2) (e .3) (e .4)) d (formatted-plan h d e) in
-    let heads : meant (f .1) (f .2) (f .3) (f .4) ≡ meant (e .1) (e .2) (e .3) (e .4) = formatted-head h c f ∙ sym (formatted-head h d e) in
-    sym (a .3) ∙ ap₂ formatted heads (zero-eq (f .0) (e .0) (a .2) (b .2) (a .1 ∙ ap sizeOf heads ∙ sym (b .1))) ∙ b .3
 
 -- every walk as of t meets the same buckets, with the same entries up to t
 abbrev SameWalks : Head → ℕ → List ℕ → List ℕ → Type 0
@@ -122,27 +112,48 @@ looks-alike h c g begin s ke t le es fs d b p q agree x lt =
     (sym (alike-length t (u .0) (u .1) (u .4)) ∙ ap length meet ∙ alike-length t (v .0) (v .1) (v .4))
     (sym (alike-data t (u .0) (u .1) (u .4)) ∙ ap (λ z. left t (dataOf z)) meet ∙ alike-data t (v .0) (v .1) (v .4))
 
-nexts-alike : (h : Head) (card other : List ℕ) → Formatted h card → Formatted h other → (calls others : List Act) → AllSized calls → AllSized others
-    → (t : ℕ) → upTo t (accepted card calls) ≡ upTo t (accepted other others) → (k : ℕ) → k < 4294967296
-    → next (cardAfter card calls) k t ≡ next (cardAfter other others) k t
-unfolding standsAsOf
-nexts-alike h card other f e calls others s z t agree k lt =
-    let one = calls-next h card f calls s k t lt in
-    let two = calls-next h other e others z k t lt in
-    let plain : List Entry → ℕ → Option Entry = λ es x. ifPost (lastFor x es) in
-    let same = found-one (plain (upTo t (accepted card calls))) k 4294967296 (one .0) (two .0) (one .2) (subst (λ es. Found (plain es) k 0 4294967296 (two .0)) (sym agree) (two .2)) in
+-- the same of nexts, by the plain reading
+nexts-alike : (h : Head) (begin : ℕ) (rs : List Entry) (card : List ℕ) → Starts h begin rs card → (calls others : List Act) → AllSized calls → AllSized others
+    → (t : ℕ) → begin ≤ t → upTo t (accepted card calls) ≡ upTo t (accepted card others) → (k : ℕ) → k < 4294967296
+    → next (cardAfter card calls) k t ≡ next (cardAfter card others) k t
+nexts-alike h begin rs card st calls others s z t le agree k lt =
+    let one = calls-next h begin rs card st calls s k t lt le in
+    let two = calls-next h begin rs card st others z k t lt le in
+    let es = accepted card calls in
+    let fs = accepted card others in
+    let here : ℕ → Option Entry = λ x. standsAsOf t x (rs ++ es) in
+    let there : ℕ → Option Entry = λ x. standsAsOf t x (rs ++ fs) in
+    let same = found-one there k 4294967296 (one .0) (two .0) (found-ext here there k 0 4294967296 (one .0) (λ x lo hi. stands-agree t rs es fs agree x) (one .2)) (two .2) in
     one .1 ∙ ap given same ∙ sym (two .1)
 
-pub cards-answer-alike : CardsAnswerAlike
-cards-answer-alike h card other f e calls others s z t agree bib lt =
-    let ke = formatted-keeps h card f in
-    let ka = formatted-keeps h other e in
+-- one card, two lists of calls
+starts-alike : (h : Head) (begin : ℕ) (rs : List Entry) (card : List ℕ) → Starts h begin rs card → (calls others : List Act) → AllSized calls → AllSized others
+    → (t : ℕ) → upTo t (accepted card calls) ≡ upTo t (accepted card others) → (bib : ℕ) → bib < 4294967296
+    → (look (cardAfter card calls) bib t ≡ look (cardAfter card others) bib t) × (next (cardAfter card calls) bib t ≡ next (cardAfter card others) bib t)
+starts-alike h begin rs card st calls others s z t agree bib lt =
+    let ke = st .keeps in
     let es = accepted card calls in
-    let fs = accepted other others in
-    let same : other ≡ card = same-format h other card e f in
-    let since = calls-since h card (λ x. nothing) 0 0 ke calls s in
-    let since2 = subst (λ c. Since c fs (cardAfter other others)) same (calls-since h other (λ x. nothing) 0 0 ka others z) in
-    let agrees = sym (up-to-left t es) ∙ agree ∙ up-to-left t fs in (
-      looks-alike h card (λ x. nothing) 0 0 ke t (omega arith) es fs (cardAfter card calls) (cardAfter other others) since since2 agrees bib lt,
-      nexts-alike h card other f e calls others s z t agree bib lt,
-    )
+    let fs = accepted card others in
+    let agrees = sym (up-to-left t es) ∙ agree ∙ up-to-left t fs in
+    ⊎-elim
+    (λ (le : begin ≤ t). (
+      looks-alike h card (λ x. said rs) begin begin ke t le es fs (cardAfter card calls) (cardAfter card others)
+          (calls-since h card (λ x. said rs) begin begin ke calls s) (calls-since h card (λ x. said rs) begin begin ke others z) agrees bib lt,
+      nexts-alike h begin rs card st calls others s z t le agree bib lt,
+    ))
+    (λ (early : t < begin). (
+      look-before h begin rs card st calls s bib t early ∙ sym (look-before h begin rs card st others z bib t early),
+      next-before h begin rs card st calls s bib t early ∙ sym (next-before h begin rs card st others z bib t early),
+    ))
+    (le-or-lt begin t)
+
+-- as of t, the card after these calls and another after those say the same
+abbrev SaysAlike : List ℕ → List Act → List ℕ → List Act → ℕ → ℕ → Type 0
+SaysAlike card calls other others t bib =
+    upTo t (accepted card calls) ≡ upTo t (accepted other others)
+    → (look (cardAfter card calls) bib t ≡ look (cardAfter other others) bib t) × (next (cardAfter card calls) bib t ≡ next (cardAfter other others) bib t)
+
+pub cards-answer-alike : CardsAnswerAlike
+cards-answer-alike h card other begun calls others s z t agree bib lt =
+    let a = alike-starts h card other begun in
+    subst (λ c. SaysAlike card calls c others t bib) (sym (a .3)) (λ up. starts-alike h (a .0) (a .1) card (a .2) calls others s z t up bib lt) agree

@@ -1,6 +1,6 @@
 -- Every promise is kept.
 use Rattle.promises.specs.Promises.{Promises}
-use Rattle.promises.proofs.Truth.{look-tells-the-truth, reads-count-the-path, next-tells-the-truth}
+use Rattle.promises.proofs.Truth.{look-tells-the-truth, reads-count-the-path, next-tells-the-truth, nothing-before-the-beginning}
 use Rattle.promises.proofs.Alike.{cards-answer-alike}
 use Rattle.promises.proofs.Overwritten.{nothing-is-overwritten}
 use Rattle.promises.proofs.Taken.{post-is-taken, strike-is-taken}
@@ -15,6 +15,7 @@ all-kept =
       look-tells-the-truth = look-tells-the-truth;
       reads-count-the-path = reads-count-the-path;
       next-tells-the-truth = next-tells-the-truth;
+      nothing-before-the-beginning = nothing-before-the-beginning;
       cards-answer-alike = cards-answer-alike;
       nothing-is-overwritten = nothing-is-overwritten;
       post-is-taken = post-is-taken;

@@ -1,4 +1,5 @@
 pub mod Numbers
+pub mod Begun
 pub mod Since
 pub mod Reading
 pub mod Truth

@@ -1,18 +1,20 @@
 -- What stands after accepted entries is the plain reading of their list.
 use mathlib.Core.Option.{Option, none, some}
 use mathlib.Core.Bool.{true, false, Bool}
-use Prim.Native.Nat.{ℕ}
-use mathlib.Core.Path.{refl, sym, ap, _∙_, _≡_}
-use mathlib.Core.List.{List, [], _∷_}
+use Prim.Native.Nat.{ℕ, _≤_}
+use mathlib.Core.Path.{refl, sym, ap, ap₂, _∙_, _≡_}
+use mathlib.Core.List.{List, [], _∷_, _++_}
 use lib.Dec.{eqb, leb}
 use Rattle.rules.specs.declared.Entry.{Entry}
 use Rattle.rules.specs.Sector.{isPost}
 use Rattle.rules.specs.Walk.{left, copyOf, standing}
 use Rattle.rules.specs.Plain.{keepIf, lastOf, only, if}
 use Rattle.laws.proofs.Copies.{copy-cons, cstep}
+use Rattle.laws.proofs.Left.{left-upto}
+use Rattle.laws.proofs.Lists.{All, only-append}
 use Rattle.tree.proofs.Keeps.{more}
 use Rattle.tree.proofs.Climb.{upd}
-use Rattle.tree.proofs.Begin.{nothing}
+use Rattle.tree.proofs.Seasoned.{said}
 use Rattle.promises.specs.Reading.{upTo, lastFrom, lastFor, ifPost, standsAsOf}
 use Rattle.promises.proofs.Since.{after}
 
@@ -39,7 +41,7 @@ unfolding ifPost standing isPost
 post-standing none = refl
 post-standing (some e) = elim (eqb (e .kind) 1) as (λ b. elim b [ true ↦ some e | false ↦ none ] ≡ if b (some e) none) [ true ↦ refl | false ↦ refl ]
 
-stands-plain : (t bib : ℕ) (es : List Entry) → standsAsOf t bib es ≡ standing (copyOf bib (left t es))
+pub stands-plain : (t bib : ℕ) (es : List Entry) → standsAsOf t bib es ≡ standing (copyOf bib (left t es))
 unfolding standsAsOf
 stands-plain t bib es = post-standing (lastFor bib (upTo t es)) ∙ ap standing (last-copy bib (upTo t es) ∙ ap (copyOf bib) (up-to-left t es))
 
@@ -62,11 +64,55 @@ after-later g (e ∷ es) t x = after-later (more g e) es t x ∙ one (leb (e .st
     one true = later-cons (eqb (e .key) x) e (copyOf x (left t es)) (g t x) ∙ ap (λ r. later r (g t x)) (sym (copy-cons x e (left t es)))
     one false = refl
 
-later-none : (r : Option Entry) → later r none ≡ standing r
-unfolding standing
-later-none none = refl
-later-none (some e) = refl
+-- behind one list another decides first
+copy-behind : (x : ℕ) (rs es : List Entry) → standing (copyOf x (rs ++ es)) ≡ later (copyOf x es) (said rs x)
+unfolding copyOf only lastOf standing
+copy-behind x rs es = ap standing (whole rs) ∙ first (copyOf x es) (copyOf x rs)
+  where
+    or : Option Entry → Option Entry → Option Entry
+    or none o = o
+    or (some e) o = some e
 
--- on a card that began with nothing
-pub after-plain : (es : List Entry) (t x : ℕ) → after (λ s. nothing) es t x ≡ standsAsOf t x es
-after-plain es t x = after-later (λ s. nothing) es t x ∙ later-none (copyOf x (left t es)) ∙ sym (stands-plain t x es)
+    step : (b : Bool) (d : Entry) (r o : Option Entry) → cstep b d (or r o) ≡ or r (cstep b d o)
+    step true d none o = refl
+    step true d (some e) o = refl
+    step false d r o = refl
+
+    none-before : (r : Option Entry) → r ≡ or r none
+    none-before none = refl
+    none-before (some e) = refl
+
+    whole : (rs : List Entry) → copyOf x (rs ++ es) ≡ or (copyOf x es) (copyOf x rs)
+    whole [] = none-before (copyOf x es)
+    whole (d ∷ rs) =
+        copy-cons x d (rs ++ es) ∙ ap (cstep (eqb (d .key) x) d) (whole rs) ∙ step (eqb (d .key) x) d (copyOf x es) (copyOf x rs)
+        ∙ ap (or (copyOf x es)) (sym (copy-cons x d rs))
+
+    first : (r o : Option Entry) → standing (or r o) ≡ later r (standing o)
+    first none o = refl
+    first (some e) o = refl
+
+-- the plain reading of records and of entries behind them
+stands-behind : (t x : ℕ) (rs es : List Entry) → standsAsOf t x (rs ++ es) ≡ later (copyOf x (left t es)) (said (left t rs) x)
+unfolding left
+stands-behind t x rs es =
+    stands-plain t x (rs ++ es) ∙ ap (λ (l : List Entry). said l x) (only-append (λ e. leb (e .stamp) t) rs es) ∙ copy-behind x (left t rs) (left t es)
+
+-- on a card that began with records, none stamped after t
+pub after-plain : (rs es : List Entry) (t x : ℕ) → All (λ e. e .stamp ≤ t) rs → after (λ s. said rs) es t x ≡ standsAsOf t x (rs ++ es)
+after-plain rs es t x past =
+    after-later (λ s. said rs) es t x ∙ ap (λ (l : List Entry). later (copyOf x (left t es)) (said l x)) (sym (left-upto t rs past)) ∙ sym (stands-behind t x rs es)
+
+-- entries that agree up to t are read alike as of t
+pub stands-agree : (t : ℕ) (rs es fs : List Entry) → upTo t es ≡ upTo t fs → (x : ℕ) → standsAsOf t x (rs ++ es) ≡ standsAsOf t x (rs ++ fs)
+stands-agree t rs es fs agree x =
+    stands-behind t x rs es ∙ ap (λ (l : List Entry). later (copyOf x l) (said (left t rs) x)) (sym (up-to-left t es) ∙ agree ∙ up-to-left t fs) ∙ sym (stands-behind t x rs fs)
+
+-- and so are entries over what is said alike
+pub stands-over : (t x : ℕ) (rs qs es : List Entry) → said (left t rs) x ≡ said (left t qs) x → standsAsOf t x (rs ++ es) ≡ standsAsOf t x (qs ++ es)
+stands-over t x rs qs es same = stands-behind t x rs es ∙ ap (later (copyOf x (left t es))) same ∙ sym (stands-behind t x qs es)
+
+-- and as of two stamps that leave the same entries
+pub stands-still : (t u x : ℕ) (rs es : List Entry) → left t rs ≡ left u rs → left t es ≡ left u es → standsAsOf t x (rs ++ es) ≡ standsAsOf u x (rs ++ es)
+stands-still t u x rs es p q =
+    stands-behind t x rs es ∙ ap₂ (λ (r l : List Entry). later (copyOf x l) (said r x)) p q ∙ sym (stands-behind u x rs es)

@@ -19,13 +19,14 @@ use Rattle.laws.proofs.Numbers.{Refuses, at-refuses}
 use Rattle.state.proofs.States.{with-head}
 use Rattle.promises.specs.Calls.{cardAfter}
 use Rattle.promises.specs.Promises.{StateTellsTheTruth, StateTellsTheNext, StateIsSettled}
+use Rattle.promises.proofs.Begun.{begun-starts}
 use Rattle.promises.proofs.Truth.{calls-keep}
 
 pub state-tells-the-truth : StateTellsTheTruth
-state-tells-the-truth h card f calls s =
-    let ke = calls-keep h card f calls s .0 in
+state-tells-the-truth h begin rs card b calls s =
+    let ke = calls-keep h begin rs card (begun-starts h begin rs card b) calls s .0 in
     let d = cardAfter card calls in
-    sym (with-head d h (ke .state .head) 0 _ _ (sym (ke .begins)) (sym (ke .top)) refl)
+    sym (with-head d h (ke .state .head) begin _ _ (sym (ke .begins)) (sym (ke .top)) refl)
 
 -- past the stamp no plan is refused with 3
 other-number : (p : Plan) → Refuses (λ c. c ≡ 3 → ⊥) p → planAnswer p .code ≡ 3 → ⊥

@@ -4,7 +4,7 @@ use mathlib.Core.Bool.{Bool, not}
 use Prim.Native.Nat.{ℕ, _+_, _≤_, _<_}
 use mathlib.Core.Path.{refl, sym, ap, subst, _∙_, _≡_}
 use mathlib.Core.Logic.{inl, inr, ⊎-elim, _⊎_}
-use mathlib.Core.List.{List, [], _∷_}
+use mathlib.Core.List.{List, [], _∷_, _++_}
 use borrow.Author.Tests.{lt-leb, ne-eqb, lt-ltb}
 use native.Mathlib.Omega.{arith}
 use Rattle.rules.specs.declared.Entry.{Entry}
@@ -24,12 +24,12 @@ use Rattle.laws.proofs.Entries.{Asks, asks-small, post-asks, strike-asks}
 use Rattle.tree.proofs.Ends.{ends-here}
 use Rattle.tree.proofs.Keeps.{Keeps, write-walk, keeps-write}
 use Rattle.tree.proofs.Tree.{some-inj}
-use Rattle.tree.proofs.Begin.{nothing}
+use Rattle.tree.proofs.Seasoned.{said}
 use Rattle.promises.specs.Promises.{TakenUnlessFull, PostIsTaken, StrikeIsTaken}
 use Rattle.promises.specs.Calls.{cardAfter, accepted, needed, remaining}
 use Rattle.promises.specs.Reading.{standsAsOf, lastStamp}
-use Rattle.promises.proofs.Reading.{after-plain}
-use Rattle.promises.proofs.Truth.{calls-keep}
+use Rattle.promises.proofs.Begun.{begun-starts}
+use Rattle.promises.proofs.Truth.{calls-keep, calls-plain}
 use Rattle.promises.proofs.Since.{after}
 
 -- more fresh buckets than there are numbers up to n: refused
@@ -102,17 +102,17 @@ strike-plan b bib at p = refl
 
 pub post-is-taken : PostIsTaken
 unfolding called planned post
-post-is-taken h card f calls s bib at time b1 a1 z up =
-    let k = calls-keep h card f calls s in
-    let g = after (λ t. nothing) (accepted card calls) in
-    let last = lastStamp 0 (accepted card calls) in
+post-is-taken h begin rs card b calls s bib at time b1 a1 z up =
+    let k = calls-keep h begin rs card (begun-starts h begin rs card b) calls s in
+    let g = after (λ t. said rs) (accepted card calls) in
+    let last = lastStamp begin (accepted card calls) in
     let d = cardAfter card calls in
     let e = postEntry bib at time in
     let asks = post-asks bib at time (z .0) (z .1) (z .2) in
     let above = k .1 at a1 up in
     plan-answers h d e (postCall bib at time) (plan d e) refl (subst (PlanTaken h d e)
-    (sym (plan-is h d g 0 last (k .0) e asks b1 above ∙ post-plan (isNone (g latest bib)) bib at time (planOn h d e (write-walk h d g 0 last (k .0) e asks .0))))
-    (on-taken h d g 0 last (k .0) e asks b1 above))
+    (sym (plan-is h d g begin last (k .0) e asks b1 above ∙ post-plan (isNone (g latest bib)) bib at time (planOn h d e (write-walk h d g begin last (k .0) e asks .0))))
+    (on-taken h d g begin last (k .0) e asks b1 above))
 
 -- a strike where o stands
 struck : (h : Head) (card : List ℕ) (e : Entry) (o : Option Entry) (k : Call) (q p : Plan) → called card k .answer ≡ planAnswer q → PlanTaken h card e p
@@ -124,16 +124,18 @@ struck h card e (some d) k q p is t eq = inr ((λ n. none-some (sym n)), plan-an
 
 pub strike-is-taken : StrikeIsTaken
 unfolding called planned strike
-strike-is-taken h card f calls s bib at b1 a1 z up =
-    let k = calls-keep h card f calls s in
+strike-is-taken h begin rs card b calls s bib at b1 a1 z up =
+    let st = begun-starts h begin rs card b in
+    let k = calls-keep h begin rs card st calls s in
     let es = accepted card calls in
-    let g = after (λ t. nothing) es in
-    let last = lastStamp 0 es in
+    let g = after (λ t. said rs) es in
+    let last = lastStamp begin es in
     let d = cardAfter card calls in
     let e = strikeEntry bib at in
     let asks = strike-asks bib at (z .0) (z .1) in
     let above = k .1 at a1 up in
-    let on = planOn h d e (write-walk h d g 0 last (k .0) e asks .0) in
-    struck h d e (standsAsOf latest bib es) (strikeCall bib at) (plan d e) on refl (on-taken h d g 0 last (k .0) e asks b1 above)
-    (plan-is h d g 0 last (k .0) e asks b1 above ∙ strike-plan (isNone (g latest bib)) bib at on
-    ∙ ap (λ o. refuseIf (isNone o) 5 on) (after-plain es latest bib))
+    let on = planOn h d e (write-walk h d g begin last (k .0) e asks .0) in
+    let a32 = z .1 in
+    struck h d e (standsAsOf latest bib (rs ++ es)) (strikeCall bib at) (plan d e) on refl (on-taken h d g begin last (k .0) e asks b1 above)
+    (plan-is h d g begin last (k .0) e asks b1 above ∙ strike-plan (isNone (g latest bib)) bib at on
+    ∙ ap (λ o. refuseIf (isNone o) 5 on) (calls-plain h begin rs card st calls s latest (omega arith) bib))

@@ -1,5 +1,6 @@
 -- What calls and batches, one after the other, leave on a card, and the entries accepted on the way.
 use mathlib.Core.Path.{_≡_}
+use mathlib.Core.Logic.{_⊎_}
 use Prim.Native.Nat.{ℕ, zero, suc, _+_, _-_, _<_}
 use mathlib.Core.List.{List, [], _∷_, _++_}
 use mathlib.Core.Option.{some}
@@ -10,7 +11,8 @@ use Rattle.rules.specs.Plain.{if}
 use Rattle.rules.specs.Sector.{encode, fields, postEntry, strikeEntry}
 use Rattle.rules.specs.Layout.{headOf}
 use Rattle.rules.specs.Walk.{Visit}
-use Rattle.rules.specs.Write.{planAnswer, planCard, topUsed, climb, rooted}
+use Rattle.rules.specs.Write.{accept, planAnswer, planCard, topUsed, climb, rooted}
+use Rattle.rules.specs.Season.{standingAt, season}
 use Rattle.rules.specs.Batch.{request, requestsIn, paired, batch}
 use Rattle.rules.specs.Calls.{Call, formatCall, postCall, strikeCall, lookCall, nextCall, called}
 
@@ -24,6 +26,26 @@ Formatted h card =
     (blank : List ℕ) × (n : ℕ) × (m : ℕ) × (td : ℕ) × (ti : ℕ)
     × Accepted blank (formatCall n m td ti) × (called blank (formatCall n m td ti) .card ≡ card) × (headOf card ≡ some h)
 
+-- the elements of a card or a buffer are bytes
+abbrev pub OfBytes : List ℕ → Type 0
+OfBytes bytes = (i : ℕ) → getD bytes i 0 < 256
+
+-- the card is what an accepted season as of t left, h its head and rs the records that stood as of t on the card it was made from,
+-- whoever wrote that
+abbrev pub Seasoned : Head → ℕ → List Entry → List ℕ → Type 0
+Seasoned h t rs card =
+    (source : List ℕ) × (target : List ℕ) × (n : ℕ) × (m : ℕ) × (td : ℕ) × (ti : ℕ)
+    × OfBytes source × (t < 4294967296) × (season source t target n m td ti ≡ accept card) × (headOf card ≡ some h) × (standingAt source t .records ≡ rs)
+
+-- how a card of ours begins, with its head, its beginning and the records it has then: formatted, or as a season card
+abbrev pub Begun : Head → ℕ → List Entry → List ℕ → Type 0
+Begun h begin rs card = (Formatted h card × (begin ≡ 0) × (rs ≡ [])) ⊎ Seasoned h begin rs card
+
+-- two cards begun alike: both formatted, or both season cards with one beginning and the same records
+abbrev pub BegunAlike : Head → List ℕ → List ℕ → Type 0
+BegunAlike h card other =
+    (Formatted h card × Formatted h other) ⊎ ((begin : ℕ) × (rs : List Entry) × Seasoned h begin rs card × Seasoned h begin rs other)
+
 -- bibs, stamps and times have 32 bits; t and format's numbers may be any
 abbrev pub Sized : Call → Type 0
 Sized (formatCall n m td ti) = Unit {0}
@@ -31,10 +53,6 @@ Sized (postCall bib at time) = (bib < 4294967296) × (at < 4294967296) × (time 
 Sized (strikeCall bib at) = (bib < 4294967296) × (at < 4294967296)
 Sized (lookCall bib t) = bib < 4294967296
 Sized (nextCall bib t) = bib < 4294967296
-
--- the elements of a card or a buffer are bytes
-abbrev pub OfBytes : List ℕ → Type 0
-OfBytes bytes = (i : ℕ) → getD bytes i 0 < 256
 
 -- what is done to a card: a single call, or a batch of requests with the places lent for their answers
 pub data Act : Type 0 where

@@ -18,7 +18,8 @@ use Rattle.rules.specs.Walk.{Visit, walk}
 use Rattle.rules.specs.Answers.{answer, refused, sheet, ended}
 use Rattle.rules.specs.Look.{look}
 use Rattle.rules.specs.Next.{next}
-use Rattle.rules.specs.Write.{latest, topUsed}
+use Rattle.rules.specs.Write.{refuse, latest, topUsed}
+use Rattle.rules.specs.Season.{season}
 use Rattle.rules.specs.State.{stateOf, state}
 use Rattle.rules.specs.Panel.{panel}
 use Rattle.rules.specs.Batch.{Batch, batch}
@@ -28,20 +29,22 @@ use Rattle.scroll.specs.declared.Tally.{Tally}
 use Rattle.scroll.specs.declared.Scroll.{Scroll}
 use Rattle.scroll.specs.Records.{recordsOf, tallyOf}
 use Rattle.scroll.specs.Scroll.{after, stepOf}
-use Rattle.promises.specs.Calls.{Accepted, Formatted, Sized, OfBytes, Act, AllSized, EachSized, cardBy, cardAfter, accepted, Asks, oneByOne, numbers, Above, needed, remaining}
+use Rattle.promises.specs.Calls.{Accepted, Begun, BegunAlike, Sized, OfBytes, Act, AllSized, EachSized, cardBy, cardAfter, accepted, Asks, oneByOne, numbers, Above, needed, remaining}
 use Rattle.promises.specs.Reading.{upTo, standsAsOf, lastStamp}
 
--- 1. A look answers 0, the bib, and the stamp and time of the last accepted entry for it stamped t or earlier if that is a post,
--- else stamp 0 and time 0. It never answers damage.
+-- 1. From a card's beginning on, a look answers 0, the bib, and the stamp and time of the last entry for it stamped t or earlier if that
+-- is a post, else stamp 0 and time 0; the entries are the records it began with and those accepted since. It never answers damage.
 abbrev pub LookTellsTheTruth : Type 0
 LookTellsTheTruth =
-    (h : Head) (card : List ℕ) → Formatted h card → (calls : List Act) → AllSized calls → (bib t : ℕ) → 1 ≤ bib → bib < 4294967296
-    → look (cardAfter card calls) bib t ≡ sheet bib (look (cardAfter card calls) bib t .reads) (standsAsOf t bib (accepted card calls))
+    (h : Head) (begin : ℕ) (rs : List Entry) (card : List ℕ) → Begun h begin rs card → (calls : List Act) → AllSized calls
+    → (bib t : ℕ) → 1 ≤ bib → bib < 4294967296 → begin ≤ t
+    → look (cardAfter card calls) bib t ≡ sheet bib (look (cardAfter card calls) bib t .reads) (standsAsOf t bib (rs ++ accepted card calls))
 
 -- Its reads are the buckets on the path of the walk.
 abbrev pub ReadsCountThePath : Type 0
 ReadsCountThePath =
-    (h : Head) (card : List ℕ) → Formatted h card → (calls : List Act) → AllSized calls → (bib t : ℕ) → 1 ≤ bib → bib < 4294967296
+    (h : Head) (begin : ℕ) (rs : List Entry) (card : List ℕ) → Begun h begin rs card → (calls : List Act) → AllSized calls
+    → (bib t : ℕ) → 1 ≤ bib → bib < 4294967296 → begin ≤ t
     → (p : List Visit) × (walk h (cardAfter card calls) t bib ≡ some p) × (look (cardAfter card calls) bib t .reads ≡ length p)
 
 -- an answer to next: the end where nothing stands above k, else the smallest bib that does, with its stamp and time
@@ -54,14 +57,24 @@ Smallest stands k a =
 -- 2. A next answers the smallest bib above k that stands as of t by the same reading as a look's; the end exactly when none does.
 abbrev pub NextTellsTheTruth : Type 0
 NextTellsTheTruth =
-    (h : Head) (card : List ℕ) → Formatted h card → (calls : List Act) → AllSized calls → (k t : ℕ) → k < 4294967296
-    → Smallest (λ bib. standsAsOf t bib (accepted card calls)) k (next (cardAfter card calls) k t)
+    (h : Head) (begin : ℕ) (rs : List Entry) (card : List ℕ) → Begun h begin rs card → (calls : List Act) → AllSized calls
+    → (k t : ℕ) → k < 4294967296 → begin ≤ t
+    → Smallest (λ bib. standsAsOf t bib (rs ++ accepted card calls)) k (next (cardAfter card calls) k t)
 
--- 3. Two cards with the same four numbers in the head whose accepted entries stamped up to t agree
+-- Before the beginning a look for a bib from 1, a next and a season are refused with 13.
+abbrev pub NothingBeforeTheBeginning : Type 0
+NothingBeforeTheBeginning =
+    (h : Head) (begin : ℕ) (rs : List Entry) (card : List ℕ) → Begun h begin rs card → (calls : List Act) → AllSized calls
+    → (bib t : ℕ) → t < begin → (target : List ℕ) (n m td ti : ℕ)
+    → (1 ≤ bib → look (cardAfter card calls) bib t ≡ refused 13)
+    × (next (cardAfter card calls) bib t ≡ refused 13)
+    × (season (cardAfter card calls) t target n m td ti ≡ refuse 13)
+
+-- 3. Two cards begun alike, with the same four numbers in the head, whose accepted entries stamped up to t agree
 -- answer every look and next as of t alike, reads included.
 abbrev pub CardsAnswerAlike : Type 0
 CardsAnswerAlike =
-    (h : Head) (card other : List ℕ) → Formatted h card → Formatted h other
+    (h : Head) (card other : List ℕ) → BegunAlike h card other
     → (calls others : List Act) → AllSized calls → AllSized others
     → (t : ℕ) → upTo t (accepted card calls) ≡ upTo t (accepted other others)
     → (bib : ℕ) → bib < 4294967296
@@ -100,21 +113,21 @@ TakenUnlessFull h card e k =
     × (((needed h card e p ≤ remaining h card) × Accepted card k)
     ⊎ ((remaining h card < needed h card e p) × (called card k .answer .code ≡ 6)))
 
--- 5. Nothing is refused without cause: a post with a bib from 1 and a stamp above every accepted one is accepted
+-- 5. Nothing is refused without cause: a post with a bib from 1 and a stamp above the beginning and every accepted one is accepted
 -- unless too few fresh buckets are left; the log has always room.
 abbrev pub PostIsTaken : Type 0
 PostIsTaken =
-    (h : Head) (card : List ℕ) → Formatted h card → (calls : List Act) → AllSized calls
-    → (bib at time : ℕ) → 1 ≤ bib → 1 ≤ at → Sized (postCall bib at time) → Above at (accepted card calls)
+    (h : Head) (begin : ℕ) (rs : List Entry) (card : List ℕ) → Begun h begin rs card → (calls : List Act) → AllSized calls
+    → (bib at time : ℕ) → 1 ≤ bib → begin < at → Sized (postCall bib at time) → Above at (accepted card calls)
     → TakenUnlessFull h (cardAfter card calls) (postEntry bib at time) (postCall bib at time)
 
 -- A strike likewise, where something stands; where nothing does it is refused with 5.
 abbrev pub StrikeIsTaken : Type 0
 StrikeIsTaken =
-    (h : Head) (card : List ℕ) → Formatted h card → (calls : List Act) → AllSized calls
-    → (bib at : ℕ) → 1 ≤ bib → 1 ≤ at → Sized (strikeCall bib at) → Above at (accepted card calls)
-    → ((standsAsOf latest bib (accepted card calls) ≡ none) × (called (cardAfter card calls) (strikeCall bib at) .answer .code ≡ 5))
-    ⊎ ((standsAsOf latest bib (accepted card calls) ≡ none → ⊥)
+    (h : Head) (begin : ℕ) (rs : List Entry) (card : List ℕ) → Begun h begin rs card → (calls : List Act) → AllSized calls
+    → (bib at : ℕ) → 1 ≤ bib → begin < at → Sized (strikeCall bib at) → Above at (accepted card calls)
+    → ((standsAsOf latest bib (rs ++ accepted card calls) ≡ none) × (called (cardAfter card calls) (strikeCall bib at) .answer .code ≡ 5))
+    ⊎ ((standsAsOf latest bib (rs ++ accepted card calls) ≡ none → ⊥)
     × TakenUnlessFull h (cardAfter card calls) (strikeEntry bib at) (strikeCall bib at))
 
 -- an outcome, answer and bytes afterwards, that fits what is said of a call on a card
@@ -167,12 +180,12 @@ ScrollIsSettled =
 abbrev pub ScrollSaysAgain : Type 0
 ScrollSaysAgain = (s : Scroll) → stepOf s .bib ≡ 0 → stepOf (after s (stepOf s)) ≡ stepOf s
 
--- 10. A card of ours says of itself its head's four numbers, that it begins with 0, the stamp of the entry accepted last, or 0,
+-- 10. A card of ours says of itself its head's four numbers, its beginning, the stamp of the entry accepted last, or of the beginning,
 -- and the highest bucket used.
 abbrev pub StateTellsTheTruth : Type 0
 StateTellsTheTruth =
-    (h : Head) (card : List ℕ) → Formatted h card → (calls : List Act) → AllSized calls
-    → state (cardAfter card calls) ≡ stateOf h 0 (lastStamp 0 (accepted card calls)) (topUsed h (cardAfter card calls) (h .n))
+    (h : Head) (begin : ℕ) (rs : List Entry) (card : List ℕ) → Begun h begin rs card → (calls : List Act) → AllSized calls
+    → state (cardAfter card calls) ≡ stateOf h begin (lastStamp begin (accepted card calls)) (topUsed h (cardAfter card calls) (h .n))
 
 -- What a state tells decides: a stamp is refused with 3 exactly where it is not above the last.
 abbrev pub StateTellsTheNext : Type 0
@@ -222,6 +235,7 @@ pub record Promises : Type 0 where
   pub look-tells-the-truth : LookTellsTheTruth
   pub reads-count-the-path : ReadsCountThePath
   pub next-tells-the-truth : NextTellsTheTruth
+  pub nothing-before-the-beginning : NothingBeforeTheBeginning
   pub cards-answer-alike : CardsAnswerAlike
   pub nothing-is-overwritten : NothingIsOverwritten
   pub post-is-taken : PostIsTaken
