@@ -8,6 +8,7 @@ use Rattle.promises.proofs.Settled.{calls-are-settled, panel-is-settled
 use Rattle.promises.proofs.Scrolled.{records-are-settled, scroll-is-settled, scroll-says-again}
 use Rattle.promises.proofs.Stated.{state-tells-the-truth, state-tells-the-next, state-is-settled}
 use Rattle.promises.proofs.Batches.{batch-is-one-by-one, batch-cut-in-two, refused-does-not-stop, batch-is-settled}
+use Rattle.promises.proofs.Copied.{seen-through, copies-of-copies, copies-are-refused-alike, twice-is-once, season-is-settled}
 
 pub all-kept : Promises
 all-kept =
@@ -34,4 +35,9 @@ all-kept =
       batch-cut-in-two = batch-cut-in-two;
       refused-does-not-stop = refused-does-not-stop;
       batch-is-settled = batch-is-settled;
+      seen-through = seen-through;
+      copies-of-copies = copies-of-copies;
+      copies-are-refused-alike = copies-are-refused-alike;
+      twice-is-once = twice-is-once;
+      season-is-settled = season-is-settled;
     }

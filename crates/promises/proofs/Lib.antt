@@ -10,4 +10,5 @@ pub mod Settled
 pub mod Scrolled
 pub mod Stated
 pub mod Batches
+pub mod Copied
 pub mod Kept

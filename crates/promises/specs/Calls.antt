@@ -1,7 +1,7 @@
 -- What calls and batches, one after the other, leave on a card, and the entries accepted on the way.
 use mathlib.Core.Path.{_≡_}
 use mathlib.Core.Logic.{_⊎_}
-use Prim.Native.Nat.{ℕ, zero, suc, _+_, _-_, _<_}
+use Prim.Native.Nat.{ℕ, zero, suc, _+_, _-_, _≤_, _<_}
 use mathlib.Core.List.{List, [], _∷_, _++_}
 use mathlib.Core.Option.{some}
 use Rattle.rules.specs.declared.Entry.{Entry}
@@ -125,6 +125,11 @@ numbers card (k ∷ ks) = called card k .answer .code ∷ numbers (called card k
 abbrev pub Above : ℕ → List Entry → Type 0
 Above at [] = Unit {0}
 Above at (e ∷ es) = (e .stamp < at) × Above at es
+
+-- no entry is stamped after t and up to u
+abbrev pub Quiet : ℕ → ℕ → List Entry → Type 0
+Quiet t u [] = Unit {0}
+Quiet t u (e ∷ es) = (t < e .stamp → e .stamp ≤ u → ⊥) × Quiet t u es
 
 -- the fresh buckets that a write of e needs along the path p, and those that remain
 unfoldable pub needed : Head → List ℕ → Entry → List Visit → ℕ

@@ -18,7 +18,7 @@ use Rattle.rules.specs.Walk.{Visit, walk}
 use Rattle.rules.specs.Answers.{answer, refused, sheet, ended}
 use Rattle.rules.specs.Look.{look}
 use Rattle.rules.specs.Next.{next}
-use Rattle.rules.specs.Write.{refuse, latest, topUsed}
+use Rattle.rules.specs.Write.{refuse, accept, planAnswer, planCard, latest, topUsed}
 use Rattle.rules.specs.Season.{season}
 use Rattle.rules.specs.State.{stateOf, state}
 use Rattle.rules.specs.Panel.{panel}
@@ -29,7 +29,7 @@ use Rattle.scroll.specs.declared.Tally.{Tally}
 use Rattle.scroll.specs.declared.Scroll.{Scroll}
 use Rattle.scroll.specs.Records.{recordsOf, tallyOf}
 use Rattle.scroll.specs.Scroll.{after, stepOf}
-use Rattle.promises.specs.Calls.{Accepted, Begun, BegunAlike, Sized, OfBytes, Act, AllSized, EachSized, cardBy, cardAfter, accepted, Asks, oneByOne, numbers, Above, needed, remaining}
+use Rattle.promises.specs.Calls.{Accepted, Begun, BegunAlike, Sized, OfBytes, Act, AllSized, EachSized, cardBy, cardAfter, accepted, Asks, oneByOne, numbers, Above, Quiet, needed, remaining}
 use Rattle.promises.specs.Reading.{upTo, standsAsOf, lastStamp}
 
 -- 1. From a card's beginning on, a look answers 0, the bib, and the stamp and time of the last entry for it stamped t or earlier if that
@@ -230,6 +230,58 @@ BatchIsSettled =
     (card requests answers : List ℕ) (one two : Batch) → FitsBatch card requests answers one → FitsBatch card requests answers two
     → (one ≡ two) × ((one .code ≡ 0 → ⊥) → (one .code ≡ 12) × (one .card ≡ card) × (one .answers ≡ answers))
 
+-- 12. A season card of a card of ours is seen through to it: from t on, looks and nexts tell what was accepted on the season card
+-- over what stood on the first card as of t.
+abbrev pub SeenThrough : Type 0
+SeenThrough =
+    (h : Head) (begin : ℕ) (rs : List Entry) (card : List ℕ) → Begun h begin rs card → (calls : List Act) → AllSized calls
+    → (t : ℕ) → t < 4294967296 → (target : List ℕ) (n m td ti : ℕ) (copy : List ℕ) → season (cardAfter card calls) t target n m td ti ≡ accept copy
+    → (more : List Act) → AllSized more → (bib u : ℕ) → bib < 4294967296 → t ≤ u
+    → let entries = upTo t (rs ++ accepted card calls) ++ accepted copy more in
+    (1 ≤ bib → look (cardAfter copy more) bib u ≡ sheet bib (look (cardAfter copy more) bib u .reads) (standsAsOf u bib entries))
+    × Smallest (λ b. standsAsOf u b entries) bib (next (cardAfter copy more) bib u)
+
+-- 13. Copies of copies: where nothing was accepted with a stamp after t and up to u, a season card as of t, copied again as of u with no
+-- calls between, is byte for byte the season card of the first card as of u with the same final geometry, given that no copy was refused.
+abbrev pub CopiesOfCopies : Type 0
+CopiesOfCopies =
+    (h : Head) (begin : ℕ) (rs : List Entry) (card : List ℕ) → Begun h begin rs card → (calls : List Act) → AllSized calls
+    → (t u : ℕ) → t ≤ u → u < 4294967296 → Quiet t u (accepted card calls)
+    → (first : List ℕ) (n m td ti : ℕ) (copy : List ℕ) → season (cardAfter card calls) t first n m td ti ≡ accept copy
+    → (second third : List ℕ) (n' m' td' ti' : ℕ) (again straight : List ℕ)
+    → season copy u second n' m' td' ti' ≡ accept again → season (cardAfter card calls) u third n' m' td' ti' ≡ accept straight
+    → again ≡ straight
+
+-- Onto one target both answer alike, refusals too.
+abbrev pub CopiesAreRefusedAlike : Type 0
+CopiesAreRefusedAlike =
+    (h : Head) (begin : ℕ) (rs : List Entry) (card : List ℕ) → Begun h begin rs card → (calls : List Act) → AllSized calls
+    → (t u : ℕ) → t ≤ u → u < 4294967296 → Quiet t u (accepted card calls)
+    → (first : List ℕ) (n m td ti : ℕ) (copy : List ℕ) → season (cardAfter card calls) t first n m td ti ≡ accept copy
+    → (target : List ℕ) (n' m' td' ti' : ℕ) → season copy u target n' m' td' ti' ≡ season (cardAfter card calls) u target n' m' td' ti'
+
+-- With u equal to t, copying twice is copying once.
+abbrev pub TwiceIsOnce : Type 0
+TwiceIsOnce =
+    (h : Head) (begin : ℕ) (rs : List Entry) (card : List ℕ) → Begun h begin rs card → (calls : List Act) → AllSized calls
+    → (t : ℕ) → t < 4294967296
+    → (first : List ℕ) (n m td ti : ℕ) (copy : List ℕ) → season (cardAfter card calls) t first n m td ti ≡ accept copy
+    → (second third : List ℕ) (n' m' td' ti' : ℕ) (again straight : List ℕ)
+    → season copy t second n' m' td' ti' ≡ accept again → season (cardAfter card calls) t third n' m' td' ti' ≡ accept straight
+    → again ≡ straight
+
+-- an outcome of a season: its number, and the bytes of the target afterwards; the first card is only read
+abbrev pub FitsSeason : List ℕ → ℕ → List ℕ → ℕ → ℕ → ℕ → ℕ → ℕ → List ℕ → Type 0
+FitsSeason card t target n m td ti number new =
+    let said = season card t target n m td ti in (number ≡ planAnswer said .code) × (new ≡ planCard target said)
+
+-- 14. What is said of a season settles both; and refused, it leaves the target as it was.
+abbrev pub SeasonIsSettled : Type 0
+SeasonIsSettled =
+    (card : List ℕ) (t : ℕ) (target : List ℕ) (n m td ti : ℕ) (one two : ℕ) (new other : List ℕ)
+    → FitsSeason card t target n m td ti one new → FitsSeason card t target n m td ti two other
+    → (one ≡ two) × (new ≡ other) × ((one ≡ 0 → ⊥) → new ≡ target)
+
 -- All that is promised. `promised` in src/ asks for a term of it, so that a promise without its proof fails the check.
 pub record Promises : Type 0 where
   pub look-tells-the-truth : LookTellsTheTruth
@@ -254,3 +306,8 @@ pub record Promises : Type 0 where
   pub batch-cut-in-two : BatchCutInTwo
   pub refused-does-not-stop : RefusedDoesNotStop
   pub batch-is-settled : BatchIsSettled
+  pub seen-through : SeenThrough
+  pub copies-of-copies : CopiesOfCopies
+  pub copies-are-refused-alike : CopiesAreRefusedAlike
+  pub twice-is-once : TwiceIsOnce
+  pub season-is-settled : SeasonIsSettled
