@@ -26,11 +26,10 @@ use Rattle.tree.proofs.Keeps.{Keeps}
 use Rattle.tree.proofs.Seasoned.{said, season-passed}
 use Rattle.tree.proofs.Standing.{standing-whole, standing-same}
 use Rattle.promises.specs.Calls.{Act, AllSized, cardAfter, accepted, Quiet}
-use Rattle.promises.specs.Promises.{SeenThrough, CopiesOfCopies, CopiesAreRefusedAlike, TwiceIsOnce, SeasonIsSettled}
+use Rattle.promises.specs.Promises.{SeenThrough, CopiesOfCopies, CopiesAreRefusedAlike, TwiceIsOnce}
 use Rattle.promises.specs.Reading.{upTo, standsAsOf, lastStamp}
 use Rattle.promises.proofs.Begun.{Starts, begun-starts, season-starts, same-season}
 use Rattle.promises.proofs.Reading.{up-to-left, stands-plain, stands-over, stands-still}
-use Rattle.promises.proofs.Settled.{plan-same}
 use Rattle.promises.proofs.Since.{after}
 use Rattle.promises.proofs.Truth.{calls-keep, calls-plain, calls-next, look-truth, found-smallest}
 
@@ -156,8 +155,3 @@ copies-are-refused-alike h begin rs card b calls sized t u le small quiet first 
 
 pub twice-is-once : TwiceIsOnce
 twice-is-once h begin rs card b calls sized t small = copies-of-copies h begin rs card b calls sized t t (omega arith) small (never t (accepted card calls))
-
-pub season-is-settled : SeasonIsSettled
-season-is-settled card t target n m td ti one two new other a b =
-    let said-of = season card t target n m td ti in
-    (a .0 ∙ sym (b .0), a .1 ∙ sym (b .1), λ some-number. a .1 ∙ plan-same target said-of (λ z. some-number (a .0 ∙ z)))

@@ -2,13 +2,13 @@
 use Rattle.promises.specs.Promises.{Promises}
 use Rattle.promises.proofs.Truth.{look-tells-the-truth, reads-count-the-path, next-tells-the-truth, nothing-before-the-beginning}
 use Rattle.promises.proofs.Alike.{cards-answer-alike}
-use Rattle.promises.proofs.Overwritten.{nothing-is-overwritten}
-use Rattle.promises.proofs.Taken.{post-is-taken, strike-is-taken}
-use Rattle.promises.proofs.Settled.{calls-are-settled, panel-is-settled, refused-means-unchanged, reads-change-nothing}
+use Rattle.promises.proofs.Overwritten.{nothing-is-overwritten, season-overwrites-nothing}
+use Rattle.promises.proofs.Taken.{post-is-taken, strike-is-taken, season-is-taken}
+use Rattle.promises.proofs.Settled.{calls-are-settled, panel-is-settled, refused-means-unchanged, reads-change-nothing, season-is-settled}
 use Rattle.promises.proofs.Scrolled.{records-are-settled, scroll-is-settled, scroll-says-again}
 use Rattle.promises.proofs.Stated.{state-tells-the-truth, state-tells-the-next, state-is-settled}
 use Rattle.promises.proofs.Batches.{batch-is-one-by-one, batch-cut-in-two, refused-does-not-stop, batch-is-settled}
-use Rattle.promises.proofs.Copied.{seen-through, copies-of-copies, copies-are-refused-alike, twice-is-once, season-is-settled}
+use Rattle.promises.proofs.Copied.{seen-through, copies-of-copies, copies-are-refused-alike, twice-is-once}
 
 pub all-kept : Promises
 all-kept =
@@ -19,8 +19,10 @@ all-kept =
       nothing-before-the-beginning = nothing-before-the-beginning;
       cards-answer-alike = cards-answer-alike;
       nothing-is-overwritten = nothing-is-overwritten;
+      season-overwrites-nothing = season-overwrites-nothing;
       post-is-taken = post-is-taken;
       strike-is-taken = strike-is-taken;
+      season-is-taken = season-is-taken;
       calls-are-settled = calls-are-settled;
       panel-is-settled = panel-is-settled;
       refused-means-unchanged = refused-means-unchanged;

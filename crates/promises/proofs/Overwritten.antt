@@ -2,7 +2,7 @@
 use mathlib.Core.Option.{Option, none, some}
 use mathlib.Core.Bool.{Bool, true, false}
 use mathlib.Core.Logic.{⊎-elim}
-use Prim.Native.Nat.{ℕ, zero, suc, _+_, _*_, _≤_}
+use Prim.Native.Nat.{ℕ, zero, suc, _+_, _*_, _≤_, _<_}
 use mathlib.Core.Path.{refl, sym, ap, subst, _∙_, _≡_}
 use mathlib.Core.List.{List, [], _∷_, _++_}
 use lib.ListN.{length, replicate}
@@ -14,6 +14,7 @@ use Rattle.rules.specs.Batch.{Batch, wellAsked, request, requestsIn, cardOf, an
 use Rattle.rules.specs.Sector.{sectorAt, fields, rootEntry, postEntry, strikeEntry, indexEntry, put, encode}
 use Rattle.rules.specs.Write.{Plan, planFor, planCard, post, strike, plan, accept, refuse}
 use Rattle.rules.specs.Format.{formatFor, format, formatted, dummy, meant}
+use Rattle.rules.specs.Season.{standingAt, season}
 use Rattle.rules.specs.Calls.{Call, formatCall, postCall, strikeCall, lookCall, nextCall, called, planned, answered}
 use Rattle.rules.specs.Rewrite.{into}
 use Rattle.rules.specs.Plain.{if, zeros}
@@ -21,7 +22,7 @@ use Rattle.laws.proofs.Bytes.{Bytes, get-bytes, bytes-sector}
 use Rattle.laws.proofs.Carries.{bytes-after}
 use Rattle.laws.proofs.Requests.{well-asks, no-card, ill-asked, asked}
 use Rattle.laws.proofs.Codec.{length-encode}
-use Rattle.laws.proofs.Heads.{Lim, limits-hold, head-facts, head-length, head-says}
+use Rattle.laws.proofs.Heads.{Lim, limits-hold, log-fits, head-facts, head-length, head-says}
 use Rattle.laws.proofs.Into.{Stays}
 use Rattle.laws.proofs.Plans.{no-accept}
 use Rattle.laws.proofs.Puts.{Puts, in-card}
@@ -31,7 +32,9 @@ use Rattle.laws.proofs.Tools.{bool-cases, true-false}
 use Rattle.laws.proofs.Writes.{call-puts, format-chain}
 use Rattle.laws.proofs.Zeros.{zero-sector, sixteen-zeros, zeros-sixteen}
 use Rattle.tree.proofs.Begin.{format-inv}
-use Rattle.promises.specs.Promises.{NoneOf, AllDifferent, WrittenAt, NothingIsOverwritten}
+use Rattle.tree.proofs.Seasoned.{season-chain, season-passed, to-passed}
+use Rattle.tree.proofs.Standing.{standing-records}
+use Rattle.promises.specs.Promises.{NoneOf, AllDifferent, WrittenAt, WrittenOnce, NothingIsOverwritten, SeasonOverwritesNothing}
 use Rattle.promises.specs.Calls.{Act, single, together, AllSized, cardBy, Sized}
 
 blank-lies : (card : List ℕ) (i : ℕ) → sectorAt card i ≡ replicate 16 0 → 16 * i + 16 ≤ length card
@@ -84,8 +87,7 @@ puts-written h Q card (i ∷ is) new size p =
 abbrev Left : List ℕ → List ℕ → Type 0
 Left card new = (is : List ℕ) × WrittenAt card is new
 
-left-promise : (card new : List ℕ) → Left card new
-    → (length new ≡ length card) × ((j : ℕ) → zeros (sectorAt card j) ≡ false → sectorAt new j ≡ sectorAt card j) × ((is : List ℕ) × AllDifferent is × WrittenAt card is new)
+left-promise : (card new : List ℕ) → Left card new → WrittenOnce card new
 left-promise card new l =
     (written-length card (l .0) new (l .1), written-stays card (l .0) new (l .1), (l .0, written-different card (l .0) new (l .1), l .1))
 
@@ -203,3 +205,30 @@ act-left card by (together requests answers) z = go (paired requests answers)
 
 pub nothing-is-overwritten : NothingIsOverwritten
 nothing-is-overwritten card by a z = left-promise card (cardBy card a) (act-left card (get-bytes card by) a z)
+
+-- the head, and what the season puts behind it
+season-left : (card : List ℕ) → Bytes card → (t : ℕ) → t < 4294967296 → (target : List ℕ) (n m td ti : ℕ) (p : Plan) → season card t target n m td ti ≡ p
+    → Left target (planCard target p)
+unfolding planCard
+season-left card by t small target n m td ti (refuse c) q = ([], refl)
+season-left card by t small target n m td ti (accept new) q =
+    let h = meant n m td ti in
+    let to = season-passed card t target n m td ti new q .3 in
+    let p = to-passed h t target (standingAt card t) new to in
+    let lies = log-fits h target (sym (p .long)) in
+    let long = length-put target 0 (headBytes h t) (head-length h t) (omega arith) in
+    let rest = season-chain h t target (standingAt card t) new small (standing-records card by t) to in (
+      0 ∷ rest .0,
+      (
+        headBytes h t,
+        zeros-sixteen (sectorAt target 0) (zero-sector target 0 (p .blank)) (sector-length target 0 (omega arith)),
+        head-length h t,
+        head-says h t,
+        puts-written h (λ d. d .stamp ≤ t) (put target 0 (headBytes h t)) (rest .0) new (sym (p .long) ∙ sym long) (rest .1),
+      ),
+    )
+
+pub season-overwrites-nothing : SeasonOverwritesNothing
+season-overwrites-nothing card by t small target n m td ti =
+    let said = season card t target n m td ti in
+    left-promise target (planCard target said) (season-left card (get-bytes card by) t small target n m td ti said refl)

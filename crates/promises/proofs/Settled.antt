@@ -18,7 +18,8 @@ use Rattle.rules.specs.Look.{lookOn, lookIn, look}
 use Rattle.rules.specs.Answers.{refused, sheet, ended, answer}
 use Rattle.rules.specs.Format.{format}
 use Rattle.rules.specs.Plain.{if}
-use Rattle.promises.specs.Promises.{CallsAreSettled, PanelIsSettled, RefusedMeansUnchanged, ReadsChangeNothing}
+use Rattle.rules.specs.Season.{season}
+use Rattle.promises.specs.Promises.{CallsAreSettled, PanelIsSettled, RefusedMeansUnchanged, ReadsChangeNothing, SeasonIsSettled}
 
 pub calls-are-settled : CallsAreSettled
 calls-are-settled card k one two a b = λ i. record { card = (a .1 ∙ sym (b .1)) i; answer = (a .0 ∙ sym (b .0)) i }
@@ -107,3 +108,8 @@ refused-means-unchanged card (nextCall bib t) f = (refl, next-bare bib t card (h
 pub reads-change-nothing : ReadsChangeNothing
 unfolding called answered
 reads-change-nothing card bib t = (refl, refl)
+
+pub season-is-settled : SeasonIsSettled
+season-is-settled card t target n m td ti one two new other a b =
+    let said-of = season card t target n m td ti in
+    (a .0 ∙ sym (b .0), a .1 ∙ sym (b .1), λ some-number. a .1 ∙ plan-same target said-of (λ z. some-number (a .0 ∙ z)))

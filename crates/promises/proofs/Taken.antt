@@ -1,11 +1,11 @@
 -- Nothing is refused without cause, on a card of our own making.
 use mathlib.Core.Option.{Option, none, some}
 use mathlib.Core.Bool.{Bool, not}
-use Prim.Native.Nat.{ℕ, _+_, _≤_, _<_}
+use Prim.Native.Nat.{ℕ, _+_, _≤_, _<_, _-_}
 use mathlib.Core.Path.{refl, sym, ap, subst, _∙_, _≡_}
 use mathlib.Core.Logic.{inl, inr, ⊎-elim, _⊎_}
 use mathlib.Core.List.{List, [], _∷_, _++_}
-use borrow.Author.Tests.{lt-leb, ne-eqb, lt-ltb}
+use borrow.Author.Tests.{lt-leb, ne-eqb, lt-ltb, le-ltb, eq-eqb}
 use native.Mathlib.Omega.{arith}
 use Rattle.rules.specs.declared.Entry.{Entry}
 use Rattle.rules.specs.declared.Head.{Head}
@@ -13,10 +13,13 @@ use Rattle.rules.specs.declared.Answer.{Answer}
 use Rattle.rules.specs.Rewrite.{Rise}
 use Rattle.rules.specs.Walk.{Visit, walk}
 use Rattle.rules.specs.Write.{topUsed, Plan, refuseIf, stampOn, planOn, planAt, planFor, logFull, checked, refuse, rooted, climb, finish, plan, planAnswer, accept, post, strike, latest}
-use Rattle.rules.specs.Sector.{isPost, postEntry, strikeEntry}
+use Rattle.rules.specs.Sector.{isPost, postEntry, strikeEntry, encode, put, rootEntry}
 use Rattle.rules.specs.Plain.{isNone, _&_}
 use Rattle.rules.specs.Answers.{refused}
 use Rattle.rules.specs.Calls.{Call, postCall, strikeCall, called, planned}
+use Rattle.rules.specs.Layout.{beginning, sizeOf}
+use Rattle.rules.specs.Season.{built, rootedOn, seasonOn, seasonTo, seasonFor, season, standingAt}
+use Rattle.rules.specs.Format.{meant}
 use Rattle.laws.proofs.Fresh.{freshAfter}
 use Rattle.laws.proofs.Tools.{le-or-lt, none-some}
 use Rattle.laws.proofs.Used.{used-within}
@@ -25,12 +28,14 @@ use Rattle.tree.proofs.Ends.{ends-here}
 use Rattle.tree.proofs.Keeps.{Keeps, write-walk, keeps-write}
 use Rattle.tree.proofs.Tree.{some-inj}
 use Rattle.tree.proofs.Seasoned.{said}
-use Rattle.promises.specs.Promises.{TakenUnlessFull, PostIsTaken, StrikeIsTaken}
-use Rattle.promises.specs.Calls.{cardAfter, accepted, needed, remaining}
+use Rattle.tree.proofs.Standing.{standing-whole}
+use Rattle.promises.specs.Promises.{TakenUnlessFull, PostIsTaken, StrikeIsTaken, SeasonIsTaken}
+use Rattle.promises.specs.Calls.{cardAfter, accepted, needed, remaining, seasonNeeds}
 use Rattle.promises.specs.Reading.{standsAsOf, lastStamp}
 use Rattle.promises.proofs.Begun.{begun-starts}
 use Rattle.promises.proofs.Truth.{calls-keep, calls-plain}
 use Rattle.promises.proofs.Since.{after}
+use lib.ListN.{length}
 
 -- more fresh buckets than there are numbers up to n: refused
 checked-refuse : (h : Head) (full : Bool) (r : Rise) → h .n + 1 < r .fresh → checked h full r ≡ refuse 6
@@ -139,3 +144,30 @@ strike-is-taken h begin rs card b calls s bib at b1 a1 z up =
     struck h d e (standsAsOf latest bib (rs ++ es)) (strikeCall bib at) (plan d e) on refl (on-taken h d g begin last (k .0) e asks b1 above)
     (plan-is h d g begin last (k .0) e asks b1 above ∙ strike-plan (isNone (g latest bib)) bib at on
     ∙ ap (λ o. refuseIf (isNone o) 5 on) (calls-plain h begin rs card st calls s latest (omega arith) bib))
+
+-- on a card of ours, onto a target in order, only 6 is left
+rooted-or-full : (h : Head) (t : ℕ) (r : Rise) → ((r .fresh ≤ h .n + 1) × ((new : List ℕ) × (rootedOn h t r ≡ accept new)))
+    ⊎ ((h .n + 1 < r .fresh) × (rootedOn h t r ≡ refuse 6))
+unfolding rootedOn refuseIf
+rooted-or-full h t r =
+    ⊎-elim
+    (λ (le : r .fresh ≤ h .n + 1). inl (le, (put (r .card) 1 (encode (rootEntry t (r .fresh - 1))), rw (le-ltb (h .n + 1) (r .fresh) le) refl)))
+    (λ (gt : h .n + 1 < r .fresh). inr (gt, rw (lt-ltb (h .n + 1) (r .fresh) gt) refl))
+    (le-or-lt (r .fresh) (h .n + 1))
+
+pub season-is-taken : SeasonIsTaken
+unfolding season seasonFor seasonTo seasonOn refuseIf seasonNeeds meant
+season-is-taken h begin rs card b calls sized t le target n m td ti lim long blank =
+    let th = meant n m td ti in
+    let source = cardAfter card calls in
+    let es = accepted card calls in
+    let ke = calls-keep h begin rs card (begun-starts h begin rs card b) calls sized .0 in
+    let begins = ke .begins in
+    let whole = standing-whole h source (after (λ z. said rs) es) begin (lastStamp begin es) ke t le in
+    let rise = built th t (standingAt source t .records) target in
+    let is : season source t target n m td ti ≡ rootedOn th t rise
+    = rw (ke .state .head, le-ltb t (beginning source) (omega arith), lim, eq-eqb (length target) (sizeOf th) long, blank, eq-eqb (standingAt source t .code) 0 (whole .code)) refl in
+    ⊎-elim
+    (λ (a : (rise .fresh ≤ n + 1) × ((new : List ℕ) × (rootedOn th t rise ≡ accept new))). let fits = a .0 in inl (omega arith, (a .1 .0, is ∙ a .1 .1)))
+    (λ (a : (n + 1 < rise .fresh) × (rootedOn th t rise ≡ refuse 6)). let full = a .0 in inr (omega arith, is ∙ a .1))
+    (rooted-or-full th t rise)

@@ -12,7 +12,7 @@ use Rattle.rules.specs.Sector.{encode, fields, postEntry, strikeEntry}
 use Rattle.rules.specs.Layout.{headOf}
 use Rattle.rules.specs.Walk.{Visit}
 use Rattle.rules.specs.Write.{accept, planAnswer, planCard, topUsed, climb, rooted}
-use Rattle.rules.specs.Season.{standingAt, season}
+use Rattle.rules.specs.Season.{standingAt, built, season}
 use Rattle.rules.specs.Batch.{request, requestsIn, paired, batch}
 use Rattle.rules.specs.Calls.{Call, formatCall, postCall, strikeCall, lookCall, nextCall, called}
 
@@ -140,3 +140,7 @@ needed h card e p =
 
 unfoldable pub remaining : Head → List ℕ → ℕ
 remaining h card = h .n - topUsed h card (h .n)
+
+-- the buckets that a season of the records rs onto the target needs
+unfoldable pub seasonNeeds : Head → ℕ → List Entry → List ℕ → ℕ
+seasonNeeds h t rs target = built h t rs target .fresh - 1

@@ -1,7 +1,7 @@
 -- What the card promises, over any list of calls and batches: the statements alone, in the rules' own words. Their proofs stand in proofs/.
 use mathlib.Core.Path.{_≡_}
 use mathlib.Core.Logic.{_⊎_}
-use mathlib.Core.Bool.{false}
+use mathlib.Core.Bool.{true, false}
 use Prim.Native.Nat.{ℕ, _*_, _/_, _≤_, _<_}
 use mathlib.Core.List.{List, [], _∷_, _++_}
 use mathlib.Core.Option.{Option, none, some}
@@ -14,12 +14,14 @@ use Rattle.rules.specs.declared.Digits.{Digits}
 use Rattle.rules.specs.declared.State.{State}
 use Rattle.rules.specs.Plain.{zeros}
 use Rattle.rules.specs.Sector.{sectorAt, put, postEntry, strikeEntry}
+use Rattle.rules.specs.Layout.{limits, sizeOf}
+use Rattle.rules.specs.Format.{meant}
 use Rattle.rules.specs.Walk.{Visit, walk}
 use Rattle.rules.specs.Answers.{answer, refused, sheet, ended}
 use Rattle.rules.specs.Look.{look}
 use Rattle.rules.specs.Next.{next}
 use Rattle.rules.specs.Write.{refuse, accept, planAnswer, planCard, latest, topUsed}
-use Rattle.rules.specs.Season.{season}
+use Rattle.rules.specs.Season.{standingAt, season}
 use Rattle.rules.specs.State.{stateOf, state}
 use Rattle.rules.specs.Panel.{panel}
 use Rattle.rules.specs.Batch.{Batch, batch}
@@ -29,7 +31,7 @@ use Rattle.scroll.specs.declared.Tally.{Tally}
 use Rattle.scroll.specs.declared.Scroll.{Scroll}
 use Rattle.scroll.specs.Records.{recordsOf, tallyOf}
 use Rattle.scroll.specs.Scroll.{after, stepOf}
-use Rattle.promises.specs.Calls.{Accepted, Begun, BegunAlike, Sized, OfBytes, Act, AllSized, EachSized, cardBy, cardAfter, accepted, Asks, oneByOne, numbers, Above, Quiet, needed, remaining}
+use Rattle.promises.specs.Calls.{Accepted, Begun, BegunAlike, Sized, OfBytes, Act, AllSized, EachSized, cardBy, cardAfter, accepted, Asks, oneByOne, numbers, Above, Quiet, needed, remaining, seasonNeeds}
 use Rattle.promises.specs.Reading.{upTo, standsAsOf, lastStamp}
 
 -- 1. From a card's beginning on, a look answers 0, the bib, and the stamp and time of the last entry for it stamped t or earlier if that
@@ -97,14 +99,23 @@ WrittenAt card [] new = card ≡ new
 WrittenAt card (i ∷ is) new =
     (bytes : List ℕ) × (sectorAt card i ≡ replicate 16 0) × (length bytes ≡ 16) × (zeros bytes ≡ false) × WrittenAt (put card i bytes) is new
 
--- 4. Nothing is overwritten, by any call or batch on any card of bytes, foreign ones too: the length stays, a sector that is not blank
--- stays, and each write goes to sixteen zero bytes, no two of a call or a batch to the same sector.
+-- nothing of the card is overwritten in the new one: the length stays, a sector that is not blank stays, and each write goes to sixteen
+-- zero bytes, no two to the same sector
+abbrev pub WrittenOnce : List ℕ → List ℕ → Type 0
+WrittenOnce card new =
+    (length new ≡ length card)
+    × ((j : ℕ) → zeros (sectorAt card j) ≡ false → sectorAt new j ≡ sectorAt card j)
+    × ((is : List ℕ) × AllDifferent is × WrittenAt card is new)
+
+-- 4. Nothing is overwritten, by any call or batch on any card of bytes, foreign ones too.
 abbrev pub NothingIsOverwritten : Type 0
-NothingIsOverwritten =
-    (card : List ℕ) → OfBytes card → (a : Act) → AllSized (a ∷ [])
-    → (length (cardBy card a) ≡ length card)
-    × ((j : ℕ) → zeros (sectorAt card j) ≡ false → sectorAt (cardBy card a) j ≡ sectorAt card j)
-    × ((is : List ℕ) × AllDifferent is × WrittenAt card is (cardBy card a))
+NothingIsOverwritten = (card : List ℕ) → OfBytes card → (a : Act) → AllSized (a ∷ []) → WrittenOnce card (cardBy card a)
+
+-- Nor is anything on its target by a season of any card of bytes.
+abbrev pub SeasonOverwritesNothing : Type 0
+SeasonOverwritesNothing =
+    (card : List ℕ) → OfBytes card → (t : ℕ) → t < 4294967296 → (target : List ℕ) (n m td ti : ℕ)
+    → WrittenOnce target (planCard target (season card t target n m td ti))
 
 -- a call that writes e is accepted where the fresh buckets needed remain, and else refused with 6
 abbrev pub TakenUnlessFull : Head → List ℕ → Entry → Call → Type 0
@@ -129,6 +140,17 @@ StrikeIsTaken =
     → ((standsAsOf latest bib (rs ++ accepted card calls) ≡ none) × (called (cardAfter card calls) (strikeCall bib at) .answer .code ≡ 5))
     ⊎ ((standsAsOf latest bib (rs ++ accepted card calls) ≡ none → ⊥)
     × TakenUnlessFull h (cardAfter card calls) (strikeEntry bib at) (strikeCall bib at))
+
+-- So is a season as of a stamp from the beginning on, onto a blank target that has the length for numbers within the limits: it is accepted
+-- where the target has the buckets needed, and else refused with 6. It never answers damage.
+abbrev pub SeasonIsTaken : Type 0
+SeasonIsTaken =
+    (h : Head) (begin : ℕ) (rs : List Entry) (card : List ℕ) → Begun h begin rs card → (calls : List Act) → AllSized calls
+    → (t : ℕ) → begin ≤ t → (target : List ℕ) (n m td ti : ℕ)
+    → limits (meant n m td ti) ≡ true → length target ≡ sizeOf (meant n m td ti) → zeros target ≡ true
+    → let source = cardAfter card calls in
+    let needs = seasonNeeds (meant n m td ti) t (standingAt source t .records) target in
+    ((needs ≤ n) × ((copy : List ℕ) × (season source t target n m td ti ≡ accept copy))) ⊎ ((n < needs) × (season source t target n m td ti ≡ refuse 6))
 
 -- an outcome, answer and bytes afterwards, that fits what is said of a call on a card
 abbrev pub FitsCall : List ℕ → Call → Done → Type 0
@@ -290,8 +312,10 @@ pub record Promises : Type 0 where
   pub nothing-before-the-beginning : NothingBeforeTheBeginning
   pub cards-answer-alike : CardsAnswerAlike
   pub nothing-is-overwritten : NothingIsOverwritten
+  pub season-overwrites-nothing : SeasonOverwritesNothing
   pub post-is-taken : PostIsTaken
   pub strike-is-taken : StrikeIsTaken
+  pub season-is-taken : SeasonIsTaken
   pub calls-are-settled : CallsAreSettled
   pub panel-is-settled : PanelIsSettled
   pub refused-means-unchanged : RefusedMeansUnchanged

@@ -299,6 +299,14 @@ season-keeps h t target r new t32 recs q =
     subst (λ z. Keeps h z (λ u. said (r .records)) t t) (p .leaves)
     (built-keeps h (p .lim) t t32 target (p .long) (p .blank) (r .records) recs (p .room))
 
+-- and is written by entries put at blanks, behind the head
+pub season-chain : (h : Head) (t : ℕ) (target : List ℕ) (r : Roll) (new : List ℕ) → t < 4294967296 → Records t (r .records) → seasonTo h t target r ≡ accept new
+    → Chain h (λ d. d .stamp ≤ t) (put target 0 (headBytes h t)) new
+season-chain h t target r new t32 recs q =
+    let p = to-passed h t target r new q in
+    subst (λ z. Chain h (λ d. d .stamp ≤ t) (put target 0 (headBytes h t)) z) (p .leaves)
+    (chain2 h (p .lim) t t32 target (p .long) (p .blank) (r .records) recs (p .room))
+
 for-passed : (card : List ℕ) (t : ℕ) (target : List ℕ) (th : Head) (o : Option Head) (new : List ℕ) → seasonFor card t target th o ≡ accept new
     → (h : Head) × (o ≡ some h) × (beginning card ≤ t) × (seasonTo th t target (standingAt card t) ≡ accept new)
 unfolding seasonFor
