@@ -104,7 +104,7 @@ pub fn batch<'a>(
 
 /// What stands for a bib as of a stamp, and the buckets read to find it.
 ///
-/// Refused as [`Refusal::Layout`], [`Refusal::NoBib`] or [`Refusal::Damage`].
+/// Refused as [`Refusal::Layout`], [`Refusal::NoBib`], [`Refusal::TooEarly`] or [`Refusal::Damage`].
 ///
 /// ```
 /// # use card::{Look, Record, Refusal, Shape};
@@ -124,7 +124,7 @@ pub fn look(card: &[u8], bib: u32, at: u32) -> Result<Look, Refusal> {
 /// The record of the smallest bib above `bib` that stands as of a stamp, or `None` at the end.
 /// From bib 0 it is the first record of the card; [`crate::scroll`] gives them all.
 ///
-/// Refused as [`Refusal::Layout`] or [`Refusal::Damage`].
+/// Refused as [`Refusal::Layout`], [`Refusal::TooEarly`] or [`Refusal::Damage`].
 ///
 /// ```
 /// # use card::{Refusal, Shape};
@@ -142,8 +142,8 @@ pub fn next(card: &[u8], bib: u32, at: u32) -> Result<Option<Record>, Refusal> {
 /// The records that [`next`] gives one after the other above `bib`, as many as there are and as fit into
 /// `out`, in one call. They lie at its start as post sectors of 16 bytes each; the bytes behind them stay.
 ///
-/// Refused as [`next`] is: a broken head also where `out` has no room for a record, damage where it is met
-/// before `out` is full. Then `out` is as it was.
+/// Refused as [`next`] is: a broken head, or a stamp before the beginning, also where `out` has no room for a
+/// record; damage where it is met before `out` is full. Then `out` is as it was.
 ///
 /// ```
 /// # use card::{Refusal, Shape};

@@ -43,7 +43,7 @@ pub struct State {
     pub td: u32,
     /// The threshold for index buckets, never 0.
     pub ti: u32,
-    /// The stamp from which the card answers: 0.
+    /// The stamp from which the card answers: 0 unless it is a season card.
     pub begin: u32,
     /// The largest stamp, or 0.
     pub last: u32,

@@ -30,10 +30,12 @@ pub enum Refusal {
     NoRequest = 11,
     /// 12: the requests of a batch are not whole, or not as many as the places for their answers.
     Unpaired = 12,
+    /// 13: the stamp asked about is before the card's beginning.
+    TooEarly = 13,
 }
 
 impl Refusal {
-    const ALL: [Refusal; 11] = [
+    const ALL: [Refusal; 12] = [
         Refusal::Layout,
         Refusal::NoBib,
         Refusal::Stamp,
@@ -45,6 +47,7 @@ impl Refusal {
         Refusal::NotBlank,
         Refusal::NoRequest,
         Refusal::Unpaired,
+        Refusal::TooEarly,
     ];
 
     /// The answer number.
@@ -98,6 +101,7 @@ impl fmt::Display for Refusal {
             Refusal::NotBlank => "the card is not blank",
             Refusal::NoRequest => "the request is not laid out as a post or a strike",
             Refusal::Unpaired => "the requests are not whole or not as many as the answers",
+            Refusal::TooEarly => "the stamp asked about is before the card's beginning",
         })
     }
 }

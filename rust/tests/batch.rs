@@ -244,7 +244,7 @@ fn on_no_card() {
     let asked = [(1, 1, 10, 5), (2, 1, 20, 0), (1, 0, 30, 5), (7, 1, 40, 0), (2, 1, 50, 9), (0, 0, 0, 0)];
     let card = fresh(8);
     let mut broken: Vec<Vec<u8>> = (0..card.len()).step_by(7).map(|len| card[..len].to_vec()).collect();
-    for (place, byte) in [(0, 5), (1, 3), (1, 33), (2, 0), (2, 5), (3, 3), (4, 1), (8, 1), (15, 255)] {
+    for (place, byte) in [(0, 5), (1, 3), (1, 33), (2, 0), (2, 5), (3, 3), (4, 1), (12, 1), (15, 255)] {
         let mut other = card.clone();
         other[place] = byte;
         broken.push(other);

@@ -47,7 +47,7 @@ fn calls(pair: &mut Pair, random: &mut Random, turns: u32) {
 
 #[test]
 fn foreign_cards() {
-    rounds("foreign cards", 25, &[0, 1, 2, 3, 4, 5, 6], |seed| {
+    rounds("foreign cards", 25, &[0, 1, 2, 3, 4, 5, 6, 13], |seed| {
         let mut random = Random::new(seed);
         let mut card = foreign::card(&mut random);
         for _ in 0..random.of(&[0, 0, 1, 2]) {
@@ -61,7 +61,7 @@ fn foreign_cards() {
 
 #[test]
 fn our_own_with_bytes_changed() {
-    rounds("changed cards", 15, &[0, 1, 2, 3, 4, 5, 6], |seed| {
+    rounds("changed cards", 15, &[0, 1, 2, 3, 4, 5, 6, 13], |seed| {
         let mut random = Random::new(seed);
         let mut geometry = Geometry::random(&mut random);
         geometry.buckets = geometry.buckets.min(150);

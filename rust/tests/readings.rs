@@ -1,11 +1,11 @@
-//! Cards made by hand, one for each place where document 01's words could be read in two ways, with
-//! the answer it should give. The readings and their reasons stand in docs/DECISIONS.md.
+//! Cards made by hand, one for each place where the words of documents 01 and 02 could be read in two ways,
+//! with the answer it should give. The readings and their reasons stand in docs/DECISIONS.md.
 
 mod common;
 
 use card_model::call::Call;
 use card_model::Answer;
-use common::bytes::{first_sector, get, put, put_head, Entry};
+use common::bytes::{first_sector, get, put, put_head, set, Entry};
 use common::length;
 use common::pair::Pair;
 
@@ -212,4 +212,39 @@ fn the_order_of_checking() {
     assert_eq!(ask(&card, post(0, 3)), refused(2));
     card[2] = 0;
     assert_eq!(ask(&card, post(0, 3)), refused(1));
+}
+
+/// 13 is for questions as of a stamp before the beginning, after bib 0 and ahead of damage. A post or strike
+/// is asked for the stamps in the buckets alone, and so may come before the beginning of a foreign card.
+#[test]
+fn a_beginning_is_for_questions() {
+    let mut card = made(&[ROOT], &[&[DOWN], &[DUMMY, (1, 5, 3, 9)]]);
+    set(&mut card, 8, 20);
+    assert_eq!(ask(&card, look(5, 19)), refused(13));
+    assert_eq!(ask(&card, look(5, 20)), [0, 5, 3, 9, 2]);
+    assert_eq!(ask(&card, look(0, 19)), refused(2));
+    assert_eq!(ask(&card, Call::Next { bib: 0, at: 19 }), refused(13));
+    assert_eq!(ask(&card, Call::Next { bib: 0, at: 20 }), [0, 5, 3, 9, 0]);
+    assert_eq!(ask(&card, post(6, 3)), refused(3));
+    assert_eq!(bucket(&after(&card, post(6, 4)), 2), [DUMMY, (1, 5, 3, 9), (1, 6, 4, 7)]);
+    card[16] = 5;
+    assert_eq!(ask(&card, look(5, 19)), refused(13));
+    assert_eq!(ask(&card, look(5, 20)), refused(4));
+}
+
+/// Every bit of the head's bytes 8..11 is the beginning's, and none of 12..15 may be set.
+#[test]
+fn the_last_bytes_of_the_head() {
+    let card = made(&[ROOT], &[&[DOWN], &[DUMMY]]);
+    for bit in 0..64 {
+        let mut other = card.clone();
+        other[8 + bit / 8] |= 1 << (bit % 8);
+        if bit < 32 {
+            let begin = 1 << bit;
+            assert_eq!(ask(&other, look(5, begin - 1)), refused(13), "bit {bit}");
+            assert_eq!(ask(&other, look(5, begin)), [0, 5, 0, 0, 2], "bit {bit}");
+        } else {
+            assert_eq!(ask(&other, look(5, NOW)), refused(1), "bit {bit}");
+        }
+    }
 }

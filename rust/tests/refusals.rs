@@ -25,12 +25,14 @@ fn each_refusal_by_its_name() {
     assert_eq!(card::format(&mut bytes, Shape::new(2, 4)), Err(Refusal::NotBlank));
     bytes[16] = 5;
     assert_eq!(card::next(&bytes, 0, 9), Err(Refusal::Damage));
+    bytes[8] = 10;
+    assert_eq!(card::next(&bytes, 0, 9), Err(Refusal::TooEarly));
     let unpaired = card::batch(&mut bytes, &[[0; 16]], &mut [0; 2]).map(drop);
     assert_eq!(unpaired, Err(Refusal::Unpaired));
 }
 
 /// Each number, its name and its words.
-const SAID: [(u32, Refusal, &str); 11] = [
+const SAID: [(u32, Refusal, &str); 12] = [
     (1, Refusal::Layout, "the card's head or length breaks the layout"),
     (2, Refusal::NoBib, "bib 0 is no bib"),
     (3, Refusal::Stamp, "the stamp is not above the largest on the card"),
@@ -42,6 +44,7 @@ const SAID: [(u32, Refusal, &str); 11] = [
     (9, Refusal::NotBlank, "the card is not blank"),
     (11, Refusal::NoRequest, "the request is not laid out as a post or a strike"),
     (12, Refusal::Unpaired, "the requests are not whole or not as many as the answers"),
+    (13, Refusal::TooEarly, "the stamp asked about is before the card's beginning"),
 ];
 
 #[test]
@@ -51,7 +54,7 @@ fn numbers_names_and_words() {
         assert_eq!((u32::from(refusal), refusal.number()), (number, number));
         assert_eq!(refusal.to_string(), words);
     }
-    for number in [0, 10, 13, u32::MAX] {
+    for number in [0, 10, 14, u32::MAX] {
         assert_eq!(Refusal::try_from(number), Err(NoRefusal(number)));
         assert_eq!(NoRefusal(number).to_string(), format!("no refusal has the number {number}"));
     }

@@ -71,11 +71,15 @@ fn above_every_bib() {
     assert_eq!((broken.next(), broken.next(), broken.next()), (Some(Err(Refusal::Layout)), None, None));
 }
 
-/// What a row of records answers and leaves in the buffer, by the second implementation's next. The head is
-/// asked first, since a buffer without room asks for no record.
+/// What a row of records answers and leaves in the buffer, by the second implementation's next. The head and
+/// the beginning are asked first, since a buffer without room asks for no record.
 fn row(card: &[u8], bib: u32, at: u32, out: &mut [u8]) -> Tally {
-    if card_model::state(card).code == 1 {
+    let state = card_model::state(card);
+    if state.code == 1 {
         return Tally { code: 1, count: 0 };
+    }
+    if at < state.begin {
+        return Tally { code: 13, count: 0 };
     }
     let (mut last, mut laid) = (bib, Vec::new());
     for _ in 0..out.len() / 16 {
@@ -148,7 +152,7 @@ fn in_a_row_on_no_card() {
 /// A refusal on the way leaves the buffer as it was.
 #[test]
 fn in_a_row_on_cards_not_of_our_making() {
-    rounds("rows of records", 6, &[0, 1, 4], |seed| {
+    rounds("rows of records", 6, &[0, 1, 4, 13], |seed| {
         let mut random = Random::new(seed);
         let mut card = foreign::card(&mut random);
         for _ in 0..random.of(&[0, 1, 2]) {

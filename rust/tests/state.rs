@@ -5,7 +5,7 @@ mod common;
 use card_model::call::{Call, MODEL};
 use card_model::paper::SESSION;
 use card_model::State;
-use common::bytes::{first_sector, put, put_head, Entry};
+use common::bytes::{first_sector, put, put_head, set, Entry};
 use common::growth::{Day, Geometry};
 use common::mutate::damage;
 use common::pair::Tally;
@@ -64,6 +64,9 @@ fn on_cards_made_by_hand() {
     assert_eq!(state(&made(&[(1, 0, (3, 0, 7, 2)), (5, 3, (9, 0, 99, 0))])), eight(99, 5));
     assert_eq!(state(&made(&[(1, 0, (3, 0, 7, 2)), (8, 3, (0, 0, 99, 0))])), eight(7, 8));
     assert_eq!(state(&made(&[(2, 1, (255, 0, u32::MAX, 0))])), eight(u32::MAX, 2));
+    let mut begun = made(&[(1, 0, (3, 0, 7, 2))]);
+    set(&mut begun, 8, 0x0403_0201);
+    assert_eq!(state(&begun), State { begin: 0x0403_0201, ..eight(7, 1) });
     let closed = card::state(&made(&[(2, 1, (1, 1, u32::MAX, 0))])).unwrap();
     assert_eq!((closed.next_stamp(), closed.fresh_buckets()), (None, 6));
 }
@@ -75,7 +78,7 @@ fn of_no_card() {
     for len in 0..card.len() {
         assert_eq!(state(&card[..len]), refused, "{len}");
     }
-    for (place, byte) in [(0, 5), (1, 3), (1, 33), (2, 0), (2, 5), (3, 3), (4, 1), (8, 1), (15, 255)] {
+    for (place, byte) in [(0, 5), (1, 3), (1, 33), (2, 0), (2, 5), (3, 3), (4, 1), (12, 1), (15, 255)] {
         let mut broken = card.clone();
         broken[place] = byte;
         assert_eq!(state(&broken), refused, "byte {place} = {byte}");

@@ -13,6 +13,8 @@ pub struct Head {
     pub ti: u32,
     /// N, the buckets of the card.
     pub buckets: u32,
+    /// The stamp from which the card answers.
+    pub begin: u32,
 }
 
 impl Head {
@@ -37,8 +39,9 @@ impl Head {
             td: first[2].into(),
             ti: first[3].into(),
             buckets: number(first, 4),
+            begin: number(first, 8),
         };
-        let rest_zero = number(first, 8) == 0 && number(first, 12) == 0;
+        let rest_zero = number(first, 12) == 0;
         let kept = first[0] == 6 && rest_zero && head.within_limits() && card.len() == head.length();
         kept.then_some(head)
     }
@@ -49,6 +52,7 @@ impl Head {
         card[2] = self.td as u8;
         card[3] = self.ti as u8;
         card[4..8].copy_from_slice(&self.buckets.to_le_bytes());
+        card[8..12].copy_from_slice(&self.begin.to_le_bytes());
     }
 
     pub fn bucket_bytes(&self) -> usize {

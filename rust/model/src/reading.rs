@@ -31,6 +31,9 @@ pub fn look(card: &[u8], bib: u32, at: u32) -> Answer {
     if bib == 0 {
         return Answer::refused(2);
     }
+    if at < head.begin {
+        return Answer::refused(13);
+    }
     looked(card, &head, bib, at).unwrap_or(Answer::refused(4))
 }
 
@@ -47,6 +50,9 @@ fn looked(card: &[u8], head: &Head, bib: u32, at: u32) -> Option<Answer> {
 /// The record of the smallest standing bib above `bib` as of `at`.
 pub fn next(card: &[u8], bib: u32, at: u32) -> Answer {
     let Some(head) = Head::of(card) else { return Answer::refused(1) };
+    if at < head.begin {
+        return Answer::refused(13);
+    }
     scrolled(card, &head, bib, at).unwrap_or(Answer::refused(4))
 }
 

@@ -25,7 +25,7 @@ pub fn state(card: &[u8]) -> State {
         sectors: head.sectors,
         td: head.td,
         ti: head.ti,
-        begin: 0,
+        begin: head.begin,
         last: survey.largest_stamp(),
         used: survey.highest_used(),
     }

@@ -27,6 +27,7 @@ pub fn format(card: &mut [u8], buckets: u32, sectors: u32, td: u32, ti: u32) -> 
         td: if td == 0 { 3 * m / 4 } else { td },
         ti: if ti == 0 { m - m / 8 } else { ti },
         buckets,
+        begin: 0,
     };
     if !meant.within_limits() || card.len() != meant.length() {
         return Answer::refused(8);

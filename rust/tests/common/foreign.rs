@@ -1,7 +1,7 @@
 //! Cards that others might have written: sound trees that our rules would not leave, with stamps in
 //! no order, old copies, roots of any height and buckets used in any order.
 
-use super::bytes::{first_sector, put, put_head, Entry};
+use super::bytes::{first_sector, put, put_head, set, Entry};
 use super::length;
 use super::random::Random;
 
@@ -26,6 +26,7 @@ pub fn card(random: &mut Random) -> Vec<u8> {
     let buckets = if random.chance(80) { random.within(2, 40) } else { random.within(41, 200) };
     let mut card = vec![0; length(buckets, sectors)];
     put_head(&mut card, buckets, sectors, random.within(2, sectors), random.within(4, sectors));
+    set(&mut card, 8, beginning(random));
     let free = numbers(random, buckets);
     let full = random.of(&[0, 40, 80, 100]);
     let latest = random.of(&[0, 0, 0, 2]);
@@ -37,6 +38,15 @@ pub fn card(random: &mut Random) -> Vec<u8> {
     }
     foreign.log(root);
     foreign.card
+}
+
+/// Mostly none; else among the stamps the card has, or any.
+fn beginning(random: &mut Random) -> u32 {
+    match random.within(0, 9) {
+        0 => random.any(),
+        1 | 2 => random.within(1, 60),
+        _ => 0,
+    }
 }
 
 /// The bucket numbers to use, the last of them first.

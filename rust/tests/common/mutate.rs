@@ -47,11 +47,12 @@ fn behind_blanks(card: &mut [u8], random: &mut Random, blank: usize) {
 }
 
 fn head(card: &mut [u8], random: &mut Random) {
-    match random.within(0, 4) {
+    match random.within(0, 5) {
         0 => card[0] = random.of(&[0, 1, 4, 5, 7]),
         1 => card[random.of(&[1, 2, 3])] = random.of(&[0, 1, 2, 3, 4, 5, 32, 33, 255]),
         2 => set(card, 4, random.any()),
         3 => card[8 + random.index(8)] = random.byte(),
+        4 => set(card, 8, random.within(0, 62)),
         _ => card[random.index(16)] ^= 1 << random.within(0, 7),
     }
 }
