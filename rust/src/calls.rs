@@ -167,6 +167,40 @@ pub fn records<'a>(card: &[u8], bib: u32, at: u32, out: &'a mut [u8]) -> Result<
     }
 }
 
+/// Begins a fresh card with what stands on a full one: the season card of `card` as of `at`, made on a blank
+/// `target` that is as long as the shape asks. Each record keeps its stamp. The target answers from its
+/// beginning `at` on, as `card` does until one of them is written to, and is refused as
+/// [`Refusal::TooEarly`] before; posts and strikes on it have stamps above `at`. A season card can be copied
+/// again.
+///
+/// Refused as [`Refusal::Layout`] or [`Refusal::TooEarly`] for the card, [`Refusal::Shape`] or
+/// [`Refusal::NotBlank`] for the target, [`Refusal::Damage`] where a scroll through the card would be, or
+/// [`Refusal::Full`] where the target has too few buckets, the first of these that holds. Then the target is
+/// as it was.
+///
+/// ```
+/// # use card::{Refusal, Shape};
+/// # let mut bytes = vec![0; Shape::new(16, 4).bytes().unwrap()];
+/// # card::format(&mut bytes, Shape::new(16, 4))?;
+/// card::post(&mut bytes, 7, 100, 59_990)?;
+/// card::post(&mut bytes, 5, 110, 58_120)?;
+/// card::strike(&mut bytes, 5, 120)?;
+/// let shape = Shape::new(40, 8);
+/// let mut fresh = vec![0; shape.bytes().unwrap()];
+/// card::season(&bytes, 120, &mut fresh, shape)?;
+/// assert_eq!(card::look(&fresh, 7, 120)?.record.unwrap().at, 100);
+/// assert_eq!(card::look(&fresh, 5, 120)?.record, None);
+/// assert_eq!(card::look(&fresh, 5, 119), Err(Refusal::TooEarly));
+/// assert_eq!(card::state(&fresh)?.begin, 120);
+/// assert_eq!(card::post(&mut fresh, 5, 120, 58_110), Err(Refusal::Stamp));
+/// card::post(&mut fresh, 5, 121, 58_110)?;
+/// # Ok::<(), Refusal>(())
+/// ```
+pub fn season(card: &[u8], at: u32, target: &mut [u8], shape: Shape) -> Result<(), Refusal> {
+    let Shape { buckets, sectors, td, ti } = shape;
+    refused(numbers::season(card, at, target, buckets, sectors, td, ti)).map_or(Ok(()), Err)
+}
+
 /// What a program has to know of a card that it opens again: its shape, its largest stamp and how many
 /// buckets are used. On a card that these calls have made, the largest stamp is that of the last post or
 /// strike that was accepted.

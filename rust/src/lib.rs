@@ -44,7 +44,7 @@ mod shape;
 mod state;
 
 pub use answers::Answers;
-pub use calls::{batch, digits, format, look, next, post, records, state, strike};
+pub use calls::{batch, digits, format, look, next, post, records, season, state, strike};
 pub use panel::Panel;
 pub use record::{Look, Record};
 pub use records::Records;

@@ -91,6 +91,17 @@ mod library {
             out: *mut u8,
             room: usize,
         ) -> Tally;
+        pub fn card_season(
+            card: *const u8,
+            len: usize,
+            at: u32,
+            target: *mut u8,
+            target_len: usize,
+            buckets: u32,
+            sectors: u32,
+            td: u32,
+            ti: u32,
+        ) -> u32;
         pub fn card_state(card: *const u8, len: usize) -> State;
         pub fn card_digits(time: u32, field: u32) -> Digits;
     }
@@ -143,6 +154,12 @@ pub fn next(card: &[u8], bib: u32, at: u32) -> Answer {
 /// As [`crate::records`].
 pub fn records(card: &[u8], bib: u32, at: u32, out: &mut [u8]) -> Tally {
     unsafe { library::card_records(card.as_ptr(), card.len(), bib, at, out.as_mut_ptr(), out.len()) }
+}
+
+/// As [`crate::season`]: 0, or the number of its refusal.
+pub fn season(card: &[u8], at: u32, target: &mut [u8], buckets: u32, sectors: u32, td: u32, ti: u32) -> u32 {
+    let (from, to) = (card.as_ptr(), target.as_mut_ptr());
+    unsafe { library::card_season(from, card.len(), at, to, target.len(), buckets, sectors, td, ti) }
 }
 
 /// As [`crate::state`].

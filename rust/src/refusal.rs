@@ -18,13 +18,14 @@ pub enum Refusal {
     Damage = 4,
     /// 5: nothing stands that could be struck.
     NothingStands = 5,
-    /// 6: more fresh buckets needed than remain, or no blank left in the root log.
+    /// 6: more fresh buckets needed than remain, or than a season's target has, or no blank left in the root
+    /// log.
     Full = 6,
     /// 7: the field is not of 4, 5 or 6 digits, or the time is too long for it.
     Panel = 7,
     /// 8: a limit of the shape is broken, or the length is not the shape's.
     Shape = 8,
-    /// 9: a byte of the card to be formatted is nonzero.
+    /// 9: a byte of the card to be formatted, or of a season's target, is nonzero.
     NotBlank = 9,
     /// 11: a request of a batch is not laid out as a post or a strike.
     NoRequest = 11,

@@ -7,7 +7,7 @@ use crate::Shape;
 pub struct State {
     /// As the head has it: the thresholds are never 0.
     pub shape: Shape,
-    /// The beginning: the stamp from which the card answers, 0 unless it is a season card.
+    /// The beginning: the stamp from which the card answers, 0 unless it is a [`crate::season`] card.
     /// Questions as of an earlier one are refused as [`crate::Refusal::TooEarly`].
     pub begin: u32,
     /// The largest stamp, or 0. A post or strike needs one above it.

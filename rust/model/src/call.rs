@@ -2,6 +2,9 @@
 
 use crate::{Answer, Digits, State};
 
+/// A season card: the source and its stamp, the target and its geometry.
+pub type Copying = fn(&[u8], u32, &mut [u8], u32, u32, u32, u32) -> u32;
+
 /// One implementation's calls.
 #[derive(Clone, Copy)]
 pub struct Calls {
@@ -11,6 +14,7 @@ pub struct Calls {
     pub batch: fn(&mut [u8], &[u8], &mut [u8]) -> u32,
     pub look: fn(&[u8], u32, u32) -> Answer,
     pub next: fn(&[u8], u32, u32) -> Answer,
+    pub season: Copying,
     pub state: fn(&[u8]) -> State,
     pub digits: fn(u32, u32) -> Digits,
 }
@@ -23,6 +27,7 @@ pub const MODEL: Calls = Calls {
     batch: crate::batch,
     look: crate::look,
     next: crate::next,
+    season: crate::season,
     state: crate::state,
     digits: crate::digits,
 };

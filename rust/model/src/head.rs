@@ -1,5 +1,6 @@
 //! The card's head: its geometry, and where the log and the buckets lie.
 
+use crate::blank::all_blank;
 use crate::sector::{number, sectors, Bytes, SECTOR};
 
 pub const MOST_SECTORS: usize = 32;
@@ -18,6 +19,30 @@ pub struct Head {
 }
 
 impl Head {
+    /// The geometry that a call asks for, its zeros as what they mean, on a card that answers from 0.
+    pub fn meant(buckets: u32, sectors: u32, td: u32, ti: u32) -> Head {
+        // a geometry past the limits is refused later; the bound keeps the products small
+        let m = sectors.min(33);
+        Head {
+            sectors,
+            td: if td == 0 { 3 * m / 4 } else { td },
+            ti: if ti == 0 { m - m / 8 } else { ti },
+            buckets,
+            begin: 0,
+        }
+    }
+
+    /// Whether a card of this geometry can be begun on these bytes: 8, and 9 where they are not blank.
+    pub fn suits(&self, card: &[u8]) -> Result<(), u32> {
+        if !self.within_limits() || card.len() != self.length() {
+            return Err(8);
+        }
+        if !all_blank(sectors(card)) {
+            return Err(9);
+        }
+        Ok(())
+    }
+
     pub fn within_limits(&self) -> bool {
         let m = self.sectors;
         (4..=MOST_SECTORS as u32).contains(&m)

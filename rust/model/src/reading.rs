@@ -5,6 +5,7 @@ use crate::bucket::Searched;
 use crate::head::Head;
 use crate::log::Log;
 use crate::sector::{Entry, POST};
+use crate::turn::Turn;
 use crate::walk::{walk, Place};
 
 /// The last copy of `bib` in a data bucket searched for it, if it is a post.
@@ -56,31 +57,12 @@ pub fn next(card: &[u8], bib: u32, at: u32) -> Answer {
     scrolled(card, &head, bib, at).unwrap_or(Answer::refused(4))
 }
 
-/// Where a walk to the next index key leaves the walk before it. Over the uppermost bucket that has this
-/// key no key lies between the two keys sought, so that both walks go the same way down to there.
-#[derive(Clone, Copy)]
-struct Turn {
-    /// The smallest index key above the one sought, on the path.
-    key: u32,
-    /// The uppermost bucket that has it.
-    place: Place,
-    /// The smallest such key over that bucket.
-    over: Option<u32>,
-}
-
 /// `None` is damage met on the log or a path.
 fn scrolled(card: &[u8], head: &Head, bib: u32, at: u32) -> Option<Answer> {
     let root = Place::root(Log::judged(head.log(card), head.buckets, at)?.root);
-    let mut from = Turn { key: bib, place: root, over: None };
+    let mut from = Turn::at_root(root, bib);
     loop {
-        let mut turn = from.over.map(|key| Turn { key, place: root, over: None });
-        let reached = walk(card, head, from.place, (from.key, at), |place, searched| {
-            let above = if searched.run.is_index() { searched.above().map(|entry| entry.key) } else { None };
-            let over = turn.map(|turn| turn.key);
-            if let Some(key) = above.filter(|&key| over.is_none_or(|over| key < over)) {
-                turn = Some(Turn { key, place, over });
-            }
-        })?;
+        let (reached, turn) = from.walk(card, head, root, at)?;
         if let Some(post) = standing_above(&reached.data, bib) {
             return Some(record(post, 0));
         }

@@ -1,12 +1,11 @@
 //! The three calls that write: format, post and strike.
 
 use crate::answer::Answer;
-use crate::blank::all_blank;
 use crate::head::{Head, MOST_BUCKETS};
 use crate::log::Log;
 use crate::reading::standing;
 use crate::rewrite::{self, Taken};
-use crate::sector::{sectors as sectors_of, sectors_mut, Entry, INDEX, POST, ROOT, SECTOR, STRIKE};
+use crate::sector::{sectors_mut, Entry, INDEX, POST, ROOT, SECTOR, STRIKE};
 use crate::survey::Survey;
 use crate::walk::{walk, Place};
 
@@ -18,30 +17,20 @@ pub const NOW: u32 = u32::MAX;
 /// longer to lay out than the walk itself mostly does.
 const USUAL_LEVELS: usize = 32;
 
+/// What is always the lowest header.
+pub const DUMMY: Entry = Entry { kind: STRIKE, key: 0, stamp: 0, value: 0 };
+
 /// Makes a blank card an empty one.
 pub fn format(card: &mut [u8], buckets: u32, sectors: u32, td: u32, ti: u32) -> Answer {
-    // a geometry past the limits is refused below; the bound keeps the products small
-    let m = sectors.min(33);
-    let meant = Head {
-        sectors,
-        td: if td == 0 { 3 * m / 4 } else { td },
-        ti: if ti == 0 { m - m / 8 } else { ti },
-        buckets,
-        begin: 0,
-    };
-    if !meant.within_limits() || card.len() != meant.length() {
-        return Answer::refused(8);
-    }
-    if !all_blank(sectors_of(card)) {
-        return Answer::refused(9);
+    let meant = Head::meant(buckets, sectors, td, ti);
+    if let Err(number) = meant.suits(card) {
+        return Answer::refused(number);
     }
     meant.write(card);
-    let mut put = |from: usize, kind, value| {
-        Entry { kind, key: 0, stamp: 0, value }.write(&mut sectors_mut(&mut card[from..])[0]);
-    };
-    put(SECTOR, ROOT, 1);
-    put(meant.place(1, 0), INDEX, 2);
-    put(meant.place(2, 0), STRIKE, 0);
+    let mut put = |from: usize, entry: Entry| entry.write(&mut sectors_mut(&mut card[from..])[0]);
+    put(SECTOR, Entry { kind: ROOT, key: 0, stamp: 0, value: 1 });
+    put(meant.place(1, 0), Entry { kind: INDEX, key: 0, stamp: 0, value: 2 });
+    put(meant.place(2, 0), DUMMY);
     Answer::ACCEPTED
 }
 

@@ -27,6 +27,7 @@ pub const LIBRARY: Calls = Calls {
     batch: card::numbers::batch,
     look: |card, bib, at| answer(card::numbers::look(card, bib, at)),
     next: |card, bib, at| answer(card::numbers::next(card, bib, at)),
+    season: card::numbers::season,
     state: |card| {
         let card::numbers::State { code, buckets, sectors, td, ti, begin, last, used } =
             card::numbers::state(card);

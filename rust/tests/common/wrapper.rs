@@ -34,6 +34,9 @@ pub const WRAPPER: Calls = Calls {
         Ok(record) => record.map_or(Answer::ACCEPTED, found),
         Err(refusal) => refused(refusal),
     },
+    season: |card, at, target, buckets, sectors, td, ti| {
+        done(card::season(card, at, target, Shape::new(buckets, sectors).td(td).ti(ti))).code
+    },
     state: |card| match card::state(card) {
         Ok(card::State { shape: Shape { buckets, sectors, td, ti }, begin, last, used }) => {
             State { code: 0, buckets, sectors, td, ti, begin, last, used }
