@@ -8,7 +8,7 @@ use common::batch;
 use common::growth::{Day, Geometry};
 use common::pair::Tally;
 use common::random::Random;
-use common::LIBRARY;
+use common::{length, LIBRARY};
 use std::alloc::{GlobalAlloc, Layout, System};
 use std::cell::Cell;
 use std::hint::black_box;
@@ -90,6 +90,44 @@ fn batches(side: &Calls) -> Tally {
         }
     }
     tally
+}
+
+/// Season copies of cards that filled up, to targets that suit and others; what is answered by number.
+fn seasons(side: &Calls) -> Tally {
+    let mut tally = Tally::default();
+    for seed in 1..=40 {
+        let mut random = Random::new(seed);
+        let mut geometry = Geometry::random(&mut random);
+        geometry.buckets = geometry.buckets.min(40);
+        let mut card = vec![0; geometry.length()];
+        geometry.format().run(side, &mut card);
+        let mut day = Day::random(&mut random);
+        for _ in 0..100 {
+            day.write(&mut random).run(side, &mut card);
+        }
+        // the beginning, then the log's first entry of no kind, then the head
+        for (place, byte) in [(8, 0), (8, 2), (16, 7), (0, 7)] {
+            card[place] = byte;
+            for (buckets, blank, at) in [(40, 0, 2), (2, 0, u32::MAX), (40, 1, 2), (1, 0, 2), (40, 0, 1)] {
+                let mut target = vec![blank; length(buckets, 5)];
+                let copied = || (side.season)(&card, at, &mut target, buckets, 5, 0, 0);
+                let (code, count) = asked(copied);
+                assert_eq!(count, 0, "answered {code}");
+                tally[code as usize] += 1;
+            }
+        }
+    }
+    tally
+}
+
+#[test]
+fn no_season_of_either_allocates() {
+    for side in [LIBRARY, MODEL] {
+        let tally = seasons(&side);
+        for number in [0, 1, 4, 6, 8, 9, 13] {
+            assert!(tally[number] > 0, "no copy was answered {number}");
+        }
+    }
 }
 
 #[test]

@@ -8,10 +8,15 @@ use common::growth::Geometry;
 use common::length;
 use common::pair::Pair;
 use common::random::Random;
+use common::season;
 
 /// Each call once, on a slice that is most likely no card.
 fn every_call(pair: &mut Pair) {
     batch::compared(pair.card(), &batch::requests(&[(1, 5, 1000, 1), (2, 5, 1001, 0)]), &[0x5a; 2]);
+    // from the slice, and onto it
+    let (card, geometry) = (pair.card().to_vec(), Geometry { buckets: 3, sectors: 5, td: 0, ti: 0 });
+    season::onto_blank(&card, 49, geometry);
+    season::compared(&season::session(), 49, &card, geometry);
     pair.call(Call::Post { bib: 5, at: 1000, time: 1 });
     pair.call(Call::Strike { bib: 8, at: 1001 });
     pair.call(Call::Look { bib: 8, at: 49 });

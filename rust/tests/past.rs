@@ -7,6 +7,7 @@ use card_model::call::Call;
 use card_model::list::{List, Said};
 use card_model::Answer;
 use common::growth::{Day, Geometry};
+use common::listed::{self, against_the_list, asked};
 use common::pair::Pair;
 use common::random::Random;
 use common::rounds;
@@ -15,51 +16,21 @@ use common::rounds;
 /// of the stamp just accepted.
 fn grow(pair: &mut Pair, random: &mut Random, writes: u32) -> (List, Vec<(Call, Answer)>) {
     let mut day = Day::random(random);
-    let (mut list, mut said) = (List::default(), Vec::new());
+    let (mut list, mut then) = (List::default(), Vec::new());
     for _ in 0..writes {
         let call = day.write(random);
         if pair.call(call).code != 0 {
             continue;
         }
-        let (bib, at, time) = match call {
-            Call::Post { bib, at, time } => (bib, at, Some(time)),
-            Call::Strike { bib, at } => (bib, at, None),
-            _ => unreachable!("only writes were made"),
-        };
-        list.push(Said { bib, at, time });
+        let entry = listed::said(call);
+        let (bib, at) = (entry.bib, entry.at);
+        list.push(entry);
         for question in [Call::Look { bib, at }, Call::Next { bib: bib - 1, at }, Call::Next { bib, at }] {
             let answer = pair.call(question);
-            said.push((question, answer));
+            then.push((question, answer));
         }
     }
-    (list, said)
-}
-
-/// The stamps around each accepted one, and the bibs around each bib, each once.
-fn asked(list: &List) -> (Vec<u32>, Vec<u32>) {
-    let around = |number: u32| [number.saturating_sub(1), number, number.saturating_add(1)];
-    let each = |of: fn(&Said) -> u32| {
-        let mut all: Vec<u32> = list.entries().iter().flat_map(|said| around(of(said))).collect();
-        all.extend([0, 1, u32::MAX]);
-        all.sort_unstable();
-        all.dedup();
-        all
-    };
-    (each(|said| said.at), each(|said| said.bib))
-}
-
-/// Looks and nexts as of `at` for each of the bibs, against the list.
-fn against_the_list(pair: &mut Pair, list: &List, at: u32, bibs: &[u32]) {
-    for &bib in bibs {
-        let next = Call::Next { bib, at };
-        let answer = pair.call(next);
-        pair.expect(next, answer, list.next(bib, at), "plain list");
-        if bib > 0 {
-            let look = Call::Look { bib, at };
-            let answer = pair.call(look);
-            pair.expect(look, Answer { reads: 0, ..answer }, list.look(bib, at), "plain list");
-        }
-    }
+    (list, then)
 }
 
 #[test]

@@ -5,7 +5,7 @@ mod common;
 use card_model::call::{Call, MODEL};
 use common::bytes::get;
 use common::growth::Geometry;
-use common::{batch, deep, stack, LIBRARY};
+use common::{batch, deep, length, stack, LIBRARY};
 
 const HEADER: &str = include_str!("../../include/card.h");
 
@@ -82,6 +82,23 @@ fn on_cards_of_ours() {
     let records =
         stack::on_a_thread(|| assert_eq!(card::numbers::records(&full, 0, now, &mut page).count, 20));
     assert!(records <= most && stack::of_digits(LIBRARY) <= most, "records take {records}");
+}
+
+/// What a season copy to the largest card of this geometry takes; it has to be accepted.
+fn of_season(card: &[u8], sectors: u32) -> usize {
+    let mut target = vec![0; length(4096, sectors)];
+    stack::on_a_thread(|| assert_eq!((LIBRARY.season)(card, u32::MAX, &mut target, 4096, sectors, 0, 0), 0))
+}
+
+#[test]
+fn a_season_of_cards_of_ours_and_any() {
+    let (full, _, _) = tall();
+    let longest = deep::card(4095, |_| 1, false);
+    for sectors in [4, 32] {
+        let [ours, any] = [&full, &longest].map(|card| of_season(card, sectors));
+        assert!(ours <= said("CARD_STACK_OURS"), "a season of ours takes {ours}");
+        assert!(any <= said("CARD_STACK_ANY"), "a season of any takes {any}");
+    }
 }
 
 /// The most buckets that a write can rewrite: half of all, since each takes a fresh one.

@@ -81,6 +81,11 @@ impl Day {
         }
     }
 
+    /// The same from a stamp on.
+    pub fn after(self, stamp: u32) -> Day {
+        Day { stamp, ..self }
+    }
+
     pub fn bib(&mut self, random: &mut Random) -> u32 {
         match self.bibs {
             Bibs::Among(low, high) => random.within(low, high),

@@ -8,9 +8,11 @@ pub mod deep;
 pub mod foreign;
 pub mod growth;
 pub mod guarded;
+pub mod listed;
 pub mod mutate;
 pub mod pair;
 pub mod random;
+pub mod season;
 pub mod stack;
 pub mod wrapper;
 
