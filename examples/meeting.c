@@ -1,8 +1,9 @@
 /* A day's meeting on a card that lies in a file: `meeting FILE`.
  *
  * The first run makes the file and records the morning; a later run opens it again, asks the card for
- * its last stamp and goes on above it, call by call and then with a heat's sheet in one call. The file
- * is mapped into memory, so the card's bytes are lent to the calls as they are.
+ * its last stamp and goes on above it, call by call and then with a heat's sheet in one call, and at last
+ * takes what stands to a fresh card. The file is mapped into memory, so the card's bytes are lent to the
+ * calls as they are.
  */
 #define _POSIX_C_SOURCE 200809L
 
@@ -15,7 +16,7 @@
 #include <sys/stat.h>
 #include <unistd.h>
 
-enum { BUCKETS = 16, SECTORS = 4, PAGE = 3, LINES = 6 };
+enum { BUCKETS = 16, SECTORS = 4, PAGE = 3, LINES = 6, NEXT_BUCKETS = 8, NEXT_SECTORS = 8 };
 
 struct file {
     uint8_t *card;
@@ -199,6 +200,24 @@ static void morning(struct file file) {
     panel(60000, 6);
 }
 
+/* The season goes on with a fresh card, here one in memory: what stands is on it, and what was before has to
+ * be asked of the old one. */
+static void season(struct file file) {
+    static uint8_t blank[CARD_BYTES(NEXT_BUCKETS, NEXT_SECTORS)];
+    struct file fresh = {blank, sizeof blank, 1};
+    uint32_t at = card_state(file.card, file.len).last;
+    uint32_t code =
+        card_season(file.card, file.len, at, fresh.card, fresh.len, NEXT_BUCKETS, NEXT_SECTORS, 0, 0);
+    printf("season card of %zu bytes as of %u: %s\n", fresh.len, at, card_text(code));
+    list(fresh, at);
+    state(fresh);
+    look(file, 22, at - 1);
+    look(fresh, 22, at - 1);
+    post(fresh, 22, at, 57850);
+    post(fresh, 22, at + 1, 57850);
+    look(fresh, 22, at + 1);
+}
+
 /* The last heat, its clock from `at` on. */
 static void evening(struct file file, uint32_t at) {
     const struct line lines[LINES] = {
@@ -212,6 +231,7 @@ static void evening(struct file file, uint32_t at) {
     heat(file, lines);
     list(file, CARD_NOW);
     state(file);
+    season(file);
 }
 
 static void afternoon(struct file file) {

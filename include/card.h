@@ -19,9 +19,10 @@
  * requests of card_batch are answered and refused likewise, each by itself.
  *
  * Threads. Any number of threads may ask (card_look, card_next, card_records, card_state) at the
- * same time.
- * card_format, card_post, card_strike and card_batch need the card alone: no other call on it may
- * run meanwhile, and the caller sees to that. Different cards have nothing to do with each other.
+ * same time, and card_season asks the card that it copies.
+ * card_format, card_post, card_strike and card_batch need the card alone, and card_season its
+ * target: no other call on it may run meanwhile, and the caller sees to that. Different cards have
+ * nothing to do with each other.
  *
  * Stack. On a card that these calls have made, each call takes at most CARD_STACK_OURS bytes of
  * stack, and on any bytes at all at most CARD_STACK_ANY: a card of another's making may have paths
@@ -43,11 +44,16 @@
  * stamp as given. In card_batch all this holds of the request at hand; what the ones before it have
  * written is whole. That is the order in the source; compiler, cache and memory keep it only where
  * they are made to. A caller who needs more makes the call on a copy and brings the changed sectors
- * over in that order.
+ * over in that order. Power lost inside card_season harms its target alone: the root entry is written
+ * last, and until it is there every question of the target is refused, so that the copy can be made
+ * again on another blank card.
  *
  * The last stamp. A post or strike needs a stamp above every stamp on the card, so one stamped
  * 4294967295 closes the card: it can be asked, but no more be written. card_state tells the largest
  * stamp of a card that is opened again.
+ *
+ * The beginning. A card made by card_format answers as of every stamp from 0. One made by card_season
+ * as of a stamp begins with that stamp, and questions as of an earlier one are refused with 13.
  */
 #ifndef CARD_H
 #define CARD_H
@@ -70,7 +76,7 @@ extern "C" {
 #define CARD_VERSION_PATCH 0
 #define CARD_VERSION "0.1.0"
 
-/* Limits of what card_format takes. TD and TI go up to the number of sectors. */
+/* Limits of what card_format and card_season take. TD and TI go up to the number of sectors. */
 #define CARD_BUCKETS_MIN 2
 #define CARD_BUCKETS_MAX 4096
 #define CARD_SECTORS_MIN 4
@@ -103,9 +109,10 @@ enum card_code {
     CARD_FULL = 6,           /* more fresh buckets needed than remain, or no blank in the root log */
     CARD_PANEL = 7,          /* no such field, or the time is too long for it */
     CARD_SHAPE = 8,          /* a limit of the shape broken, or the length not the shape's */
-    CARD_NOT_BLANK = 9,      /* a byte of the card to be formatted is nonzero */
+    CARD_NOT_BLANK = 9,      /* a byte of the card to be made is nonzero */
     CARD_NO_REQUEST = 11,    /* a request of a batch is not laid out as a post or a strike */
-    CARD_UNPAIRED = 12       /* a batch's requests are not whole, or not as many as its answers */
+    CARD_UNPAIRED = 12,      /* a batch's requests are not whole, or not as many as its answers */
+    CARD_TOO_EARLY = 13      /* the stamp asked about is before the card's beginning */
 };
 
 /* What a request of card_batch asks for: its byte 0. */
@@ -141,6 +148,8 @@ static inline const char *card_text(uint32_t code) {
         return "the request is not laid out as a post or a strike";
     case CARD_UNPAIRED:
         return "the requests are not whole or not as many as the answers";
+    case CARD_TOO_EARLY:
+        return "the stamp asked about is before the card's beginning";
     default:
         return "no answer of the card";
     }
@@ -168,7 +177,7 @@ struct card_state {
     uint32_t sectors; /* the sectors of a bucket */
     uint32_t td;      /* the threshold for data buckets, as the head has it: never 0 */
     uint32_t ti;      /* the threshold for index buckets, likewise */
-    uint32_t begin;   /* the stamp from which the card answers: 0 */
+    uint32_t begin;   /* the beginning: the stamp from which the card answers */
     uint32_t last;    /* the largest stamp; a post or strike needs one above it */
     uint32_t used;    /* the highest bucket used; those above it, buckets - used, are fresh */
 };
@@ -229,13 +238,15 @@ uint32_t card_batch(uint8_t *card, size_t len, const uint8_t *requests, size_t r
 /* What stands for `bib` as of stamp `at`.
  * Found: bib, stamp and time of the record, and the number of buckets read. None: bib, stamp 0,
  * time 0, and the number of buckets read.
- * Refused: 1, head or length breaks the layout; 2, bib 0; 4, damage met on the log or path.
+ * Refused: 1, head or length breaks the layout; 2, bib 0; 13, `at` before the card's beginning; 4,
+ * damage met on the log or path.
  * Leaves the card as it was. */
 struct card_answer card_look(const uint8_t *card, size_t len, uint32_t bib, uint32_t at);
 
 /* The record of the smallest bib above `bib` that stands as of stamp `at`; `bib` may be 0.
  * Found: bib, stamp and time of the record, reads 0. The end: all zeros.
- * Refused: 1, head or length breaks the layout; 4, damage met on the log or path.
+ * Refused: 1, head or length breaks the layout; 13, `at` before the card's beginning; 4, damage met
+ * on the log or path.
  * Leaves the card as it was. */
 struct card_answer card_next(const uint8_t *card, size_t len, uint32_t bib, uint32_t at);
 
@@ -244,18 +255,41 @@ struct card_answer card_next(const uint8_t *card, size_t len, uint32_t bib, uint
  * bytes 1 to 3 are 0, and bib, stamp and time follow, each of 4 bytes, low first. The bytes behind
  * the last record stay as they were. `out` is not null, its bytes can be read and written, and none
  * of them is the card's.
- * Refused: 1, head or length breaks the layout, also where `out` has no room for a record; 4, damage
- * met before `out` is full. Then no byte of `out` is written.
+ * Refused: 1, head or length breaks the layout; 13, `at` before the card's beginning; both also where
+ * `out` has no room for a record; 4, damage met before `out` is full. Then no byte of `out` is written.
  * Leaves the card as it was. */
 struct card_tally card_records(const uint8_t *card, size_t len, uint32_t bib, uint32_t at,
                                uint8_t *out, size_t room);
 
-/* What a program has to know of a card that it opens again: its shape, its largest stamp and how many
- * buckets are used.
+/* Begins a fresh card with what stands on another, for when that one is full: a season card.
+ * `target` is a blank card of `target_len` bytes; buckets, sectors, td and ti are its shape, as in
+ * card_format. `target` is not null, its bytes can be read and written, and none of them is the card's.
+ * The records that stand on `card` as of `at` go to the target, just those that card_next gives one
+ * after the other from bib 0, each with its own stamp; nothing of what was corrected or struck before
+ * does. As of `at` the target answers as `card` does, and as of later stamps by these records and by
+ * what is written to it. What was before `at` is refused there, and has to be asked of the old card.
+ * A post or strike on the target needs a stamp above `at`. So `at` is best the old card's last stamp,
+ * from card_state: as of CARD_NOW the target would be closed before it is used.
+ * A bucket is filled to q = sectors * 3 / 4 of its sectors, whatever td is. The target needs a bucket
+ * for every q of the records and one entry more, rounded up; one for every q of those buckets, rounded
+ * up; and so on until it is one: two buckets at least. Those left are what it has for the season.
+ * A season card can be copied again. If nothing was written to it meanwhile, its copy as of the same
+ * stamp is byte for byte what a copy of the first card to that shape would be.
+ * Refused: 1, head or length of the card breaks the layout; 13, `at` before the card's beginning; 8, a
+ * limit of the target's shape broken or `target_len` not CARD_BYTES(buckets, sectors); 9, a byte of the
+ * target nonzero; 4, damage met on the card where card_next would meet it, up to the last record; 6, the
+ * target has too few buckets. Then no byte of the target is written.
+ * Leaves the card as it was. The answer is the number alone. */
+uint32_t card_season(const uint8_t *card, size_t len, uint32_t at, uint8_t *target, size_t target_len,
+                     uint32_t buckets, uint32_t sectors, uint32_t td, uint32_t ti);
+
+/* What a program has to know of a card that it opens again: its shape, its beginning, its largest stamp
+ * and how many buckets are used.
+ * `begin` is 0 on a card made by card_format, and the stamp that a season card was made as of.
  * `last` is the largest stamp of any sector of the buckets whose kind is not 0, or 0 where there is
  * none: just what refusal 3 compares with. On a card that these calls have made it is the stamp of
- * the last post or strike that was accepted. `used` is the highest bucket with a nonzero byte, or 0;
- * the next fresh bucket is the one above it.
+ * the last post or strike that was accepted, or the beginning where there was none. `used` is the
+ * highest bucket with a nonzero byte, or 0; the next fresh bucket is the one above it.
  * Refused: 1, head or length breaks the layout. Damage is not asked for.
  * Leaves the card as it was. */
 struct card_state card_state(const uint8_t *card, size_t len);

@@ -127,6 +127,68 @@ static void batches(void) {
     CHECK(card_look(card, sizeof card, 7, 12).time == 92 && card_state(card, sizeof card).last == 12);
 }
 
+/* A card of 16 buckets of four sectors with seven records, stamped 1 to 7. */
+static void seven(uint8_t *card, size_t len) {
+    uint32_t at;
+    CHECK(card_format(card, len, 16, 4, 0, 0).code == CARD_OK);
+    for (at = 1; at <= 7; at++)
+        CHECK(card_post(card, len, 10 * at, at, 100 + at).code == CARD_OK);
+}
+
+/* Seven records and one entry more, three to a bucket: three buckets and one over them. */
+static void seasons(void) {
+    static const struct card_state begun = {CARD_OK, 4, 4, 3, 4, 7, 7, 4};
+    static const struct card_answer found = {CARD_OK, 70, 7, 107, 2}, early = {CARD_TOO_EARLY, 0, 0, 0, 0};
+    uint8_t card[CARD_BYTES(16, 4)] = {0}, target[CARD_BYTES(4, 4)] = {0}, page[CARD_SECTOR_BYTES];
+    struct card_state state;
+    struct card_answer answer;
+    seven(card, sizeof card);
+    CHECK(card_season(card, sizeof card, 7, target, CARD_BYTES(3, 4), 3, 4, 0, 0) == CARD_FULL);
+    CHECK(card_season(card, sizeof card, 7, target, sizeof target, 4, 4, 0, 0) == CARD_OK);
+    state = card_state(target, sizeof target);
+    CHECK(memcmp(&state, &begun, sizeof state) == 0);
+    answer = card_look(target, sizeof target, 70, 7);
+    CHECK(memcmp(&answer, &found, sizeof answer) == 0);
+    answer = card_look(target, sizeof target, 70, 6);
+    CHECK(memcmp(&answer, &early, sizeof answer) == 0 && CARD_TOO_EARLY == 13);
+    CHECK(card_next(target, sizeof target, 0, 6).code == CARD_TOO_EARLY);
+    CHECK(card_next(target, sizeof target, 0, 7).bib == 10);
+    CHECK(card_records(target, sizeof target, 0, 6, page, 0).code == CARD_TOO_EARLY);
+    CHECK(card_records(target, sizeof target, 60, 7, page, sizeof page).count == 1);
+    CHECK(card_post(target, sizeof target, 70, 7, 1).code == CARD_STAMP);
+    CHECK(card_post(target, sizeof target, 70, 8, 1).code == CARD_OK);
+}
+
+/* The refusals of card_season in the header's order, each where those behind it would be given too. */
+static void refused_seasons(void) {
+    uint8_t card[CARD_BYTES(16, 4)] = {0}, season[CARD_BYTES(5, 4)] = {0}, target[CARD_BYTES(2, 4)] = {0};
+    static const uint8_t blank[sizeof target] = {0};
+    seven(card, sizeof card);
+    CHECK(card_season(card, sizeof card, 7, season, sizeof season, 5, 4, 0, 0) == CARD_OK);
+    season[16 * (1 + 5) + 1] = 1; /* damage in bucket 1 */
+    target[0] = 1;
+    CHECK(card_season(season, sizeof season - 1, 6, target, sizeof target, 3, 4, 0, 0) == CARD_LAYOUT);
+    CHECK(card_season(season, sizeof season, 6, target, sizeof target, 3, 4, 0, 0) == CARD_TOO_EARLY);
+    CHECK(card_season(season, sizeof season, 7, target, sizeof target, 3, 4, 0, 0) == CARD_SHAPE);
+    CHECK(card_season(season, sizeof season, 7, target, sizeof target, 2, 4, 0, 0) == CARD_NOT_BLANK);
+    target[0] = 0;
+    CHECK(card_season(season, sizeof season, 7, target, sizeof target, 2, 4, 0, 0) == CARD_DAMAGE);
+    season[16 * (1 + 5) + 1] = 0;
+    CHECK(card_season(season, sizeof season, 7, target, sizeof target, 2, 4, 0, 0) == CARD_FULL);
+    CHECK(memcmp(target, blank, sizeof target) == 0);
+}
+
+/* A copy of a copy is the copy. */
+static void copied_seasons(void) {
+    uint8_t card[CARD_BYTES(16, 4)] = {0}, once[CARD_BYTES(4, 6)] = {0};
+    uint8_t between[CARD_BYTES(9, 5)] = {0}, twice[CARD_BYTES(4, 6)] = {0};
+    seven(card, sizeof card);
+    CHECK(card_season(card, sizeof card, 7, once, sizeof once, 4, 6, 0, 0) == CARD_OK);
+    CHECK(card_season(card, sizeof card, 7, between, sizeof between, 9, 5, 2, 4) == CARD_OK);
+    CHECK(card_season(between, sizeof between, 7, twice, sizeof twice, 4, 6, 0, 0) == CARD_OK);
+    CHECK(memcmp(once, twice, sizeof once) == 0);
+}
+
 /* A card's state, and that of bytes that are no card. */
 static void states(void) {
     static const struct card_state blank = {CARD_LAYOUT, 0, 0, 0, 0, 0, 0, 0};
@@ -155,6 +217,7 @@ static void texts(void) {
         "no answer of the card",
         "the request is not laid out as a post or a strike",
         "the requests are not whole or not as many as the answers",
+        "the stamp asked about is before the card's beginning",
         "no answer of the card",
     };
     uint32_t code;
@@ -175,6 +238,9 @@ int main(void) {
     answer_numbers();
     a_full_card();
     batches();
+    seasons();
+    refused_seasons();
+    copied_seasons();
     states();
     texts();
     version();
