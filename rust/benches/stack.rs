@@ -29,6 +29,17 @@ fn batch_row(what: &str, card: &[u8], posts: &[Call]) {
     println!("| {what} | {library} | {rust} |");
 }
 
+/// A season copy to a card of this geometry, accepted.
+fn season_row(what: &str, card: &[u8], geometry: Geometry) {
+    let Geometry { buckets, sectors, td, ti } = geometry;
+    let [library, rust] = [LIBRARY, MODEL].map(|side| {
+        let mut target = vec![0; geometry.length()];
+        let copied = || assert_eq!((side.season)(card, u32::MAX, &mut target, buckets, sectors, td, ti), 0);
+        stack::on_a_thread(copied)
+    });
+    println!("| {what} | {library} | {rust} |");
+}
+
 /// A post that rewrites at least a data bucket: the first bib from 1 whose post takes a fresh bucket.
 fn splitting(grown: &Grown) -> Call {
     let post = |bib| Call::Post { bib, at: grown.stamp + 1, time: 1 };
@@ -55,9 +66,11 @@ fn main() {
     let posts: Vec<Call> = (0..100).map(|i| Call::Post { bib: 1 + 3 * i, at: at + i, time: 1 }).collect();
     batch_row("batch of a post", &grown.card, &[Call::Post { bib, at, time: 1 }]);
     batch_row("batch of 100 posts, some of which rewrite", &grown.card, &posts);
+    season_row("season", &grown.card, grown.geometry);
     println!("| digits | {} | {} |", stack::of_digits(LIBRARY), stack::of_digits(MODEL));
     let levels = deep::card(2047, |_| 4, false);
     row("look, 2,047 index levels", &levels, Call::Look { bib: 1, at }, 0);
+    season_row("season, 2,047 index levels", &levels, grown.geometry);
     let rewriting = Call::Post { bib: 1, at, time: 1 };
     row("post that rewrites 2,048 buckets", &levels, rewriting, 0);
     batch_row("batch of that post", &levels, &[rewriting]);
