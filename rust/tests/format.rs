@@ -1,5 +1,5 @@
-//! The card that docs/FORMAT.md shows: its bytes were written down by hand from the rules. The calls it names
-//! leave just these bytes, and its questions have the answers it gives.
+//! The two cards that docs/FORMAT.md shows: their bytes were written down by hand from the rules. The calls it
+//! names leave just these bytes, and its questions have the answers it gives.
 
 use card::{Look, Record, Refusal, Request, Shape, State};
 
@@ -17,13 +17,22 @@ fn sector(line: &str) -> Option<(usize, Vec<u8>)> {
     bytes.filter(|bytes| bytes.len() == 16).map(|bytes| (place, bytes))
 }
 
-fn dumped() -> Vec<u8> {
-    let mut card = Vec::new();
+/// The page's two cards; place 0 begins one.
+fn cards() -> [Vec<u8>; 2] {
+    let mut cards: Vec<Vec<u8>> = Vec::new();
     for (place, bytes) in PAGE.lines().filter_map(sector) {
+        if place == 0 {
+            cards.push(Vec::new());
+        }
+        let card = cards.last_mut().expect("the first line is at place 0");
         assert_eq!(place, card.len(), "each line begins where the one before it ends");
         card.extend(bytes);
     }
-    card
+    cards.try_into().expect("the page shows two cards")
+}
+
+fn dumped() -> Vec<u8> {
+    cards()[0].clone()
 }
 
 #[test]
@@ -84,4 +93,19 @@ fn nexts_and_the_post_are_answered_as_the_page_says() {
 fn the_card_says_of_itself_what_the_page_says() {
     let shape = Shape { buckets: 4, sectors: 4, td: 3, ti: 4 };
     assert_eq!(card::state(&dumped()), Ok(State { shape, begin: 0, last: 130, used: 4 }));
+}
+
+/// Its season card has the page's bytes, says of itself what the page says, and is answered so.
+#[test]
+fn the_season_card_is_as_the_page_says() {
+    let [card, mut season] = cards();
+    let shape = Shape::new(3, 4).td(3).ti(4);
+    let mut target = vec![0; shape.bytes().unwrap()];
+    card::season(&card, 140, &mut target, shape).unwrap();
+    assert_eq!(target, season);
+    assert_eq!(card::state(&season), Ok(State { shape, begin: 140, last: 140, used: 2 }));
+    assert_eq!(card::look(&season, 12, 140), Ok(Look { record: Some(TWELVE), reads: 2 }));
+    assert_eq!(card::look(&season, 12, 139), Err(Refusal::TooEarly));
+    assert_eq!(card::look(&season, 0, 139), Err(Refusal::NoBib));
+    assert_eq!(card::post(&mut season, 7, 140, 1), Err(Refusal::Stamp));
 }
