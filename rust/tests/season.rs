@@ -405,29 +405,38 @@ fn of_cards_of_ours_with_bytes_changed() {
     });
 }
 
-/// A data bucket may hold bibs that the index leads elsewhere for: next gives them, and goes on from them. The
+/// A data bucket may hold bibs that the index leads elsewhere for: next gives them, and walks on from them. The
 /// records are what its steps give, and not what looks would find.
 #[test]
 fn bibs_beyond_their_bucket() {
-    let mut card = vec![0; length(4, 4)];
-    put_head(&mut card, 4, 4, 3, 4);
-    put(&mut card, 1, (4, 0, 0, 1));
-    let entries = [
-        (1, 0, (3, 0, 0, 2)),
-        (1, 1, (3, 10, 0, 3)),
+    let index = [(1, 0, (3, 0, 0, 2)), (1, 1, (3, 10, 0, 3)), (1, 2, (3, 14, 0, 4))];
+    let copied = |data: &[(u32, usize, Entry)]| {
+        let card = four(0, 1, &[&index, data].concat());
+        let season = copy(&card, 5, shape(4, 4));
+        let bibs: Vec<u32> = standing(&season, 5).unwrap().iter().map(|record| record.1).collect();
+        bibs
+    };
+    // from 15 the walk is to bucket 4, so that 10 and 20 in bucket 3 are not met
+    let past_a_bucket = [
         (2, 0, (2, 0, 0, 0)),
-        (2, 1, (1, 15, 1, 9)), // beyond key 10
+        (2, 1, (1, 15, 1, 9)),
         (2, 2, (1, 5, 1, 8)),
-        (3, 0, (1, 10, 2, 7)), // not given: the step before it gives 15
+        (3, 0, (1, 10, 2, 7)),
         (3, 1, (1, 20, 2, 6)),
+        (4, 0, (1, 14, 3, 5)),
+        (4, 1, (1, 30, 3, 4)),
     ];
-    for (bucket, sector, entry) in entries {
-        put(&mut card, first_sector(4, 4, bucket) + sector, entry);
-    }
-    assert_eq!(standing(&card, 5), Ok(vec![(1, 5, 1, 8), (1, 15, 1, 9), (1, 20, 2, 6)]));
-    let season = copy(&card, 5, shape(4, 4));
-    assert_eq!((LIBRARY.look)(&season, 15, 5).time, 9);
-    assert_eq!((LIBRARY.look)(&season, 10, 5).at, 0);
+    assert_eq!(copied(&past_a_bucket), [5, 15, 30]);
+    // from 10, the key itself, it is to bucket 3, so that 12 is met there alone, where it is struck
+    let at_the_key = [
+        (2, 0, (2, 0, 0, 0)),
+        (2, 1, (1, 10, 1, 9)),
+        (2, 2, (1, 12, 1, 8)),
+        (3, 0, (1, 10, 2, 7)),
+        (3, 1, (2, 12, 2, 0)),
+        (4, 0, (1, 14, 3, 5)),
+    ];
+    assert_eq!(copied(&at_the_key), [10, 14]);
 }
 
 /// Paths of many levels, as far as a card has buckets.
