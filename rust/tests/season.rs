@@ -4,7 +4,7 @@ mod common;
 
 use card_model::call::{Call, MODEL};
 use card_model::list::{List, Said};
-use card_model::State;
+use card_model::{Answer, State};
 use common::batch::{self, blank_answers, requests, requests_of};
 use common::bytes::{first_sector, get, put, put_head, set, Entry};
 use common::growth::{Day, Geometry};
@@ -258,9 +258,10 @@ fn begun(card: &[u8], at: u32) -> List {
     list
 }
 
-/// Writes after a copy, one by one or a batch at a time, the accepted ones added to the list.
-fn season_day(pair: &mut Pair, random: &mut Random, list: &mut List, writes: u32) {
-    let begin = (MODEL.state)(pair.card()).begin;
+/// Writes after a copy, one by one or a batch at a time, the accepted ones added to the list. Gives the answers
+/// to some questions asked as of the stamp just accepted.
+fn season_day(pair: &mut Pair, random: &mut Random, list: &mut List, writes: u32) -> Vec<(Call, Answer)> {
+    let (begin, before, mut then) = ((MODEL.state)(pair.card()).begin, pair.card().to_vec(), Vec::new());
     let mut day = Day::random(random).after(begin.saturating_sub(2));
     let calls: Vec<Call> = (0..writes).map(|_| day.write(random)).collect();
     for calls in calls.chunks(random.of(&[1, 5, 30])) {
@@ -269,15 +270,21 @@ fn season_day(pair: &mut Pair, random: &mut Random, list: &mut List, writes: u32
         for (&call, &answer) in calls.iter().zip(&left.answers) {
             assert_eq!(pair.call(call).code, u32::from(answer), "{call:?}");
             if answer == 0 {
+                let Said { bib, at, .. } = said(call);
                 list.push(said(call));
+                let asked = [Call::Look { bib, at }, Call::Next { bib: bib - 1, at }, Call::Next { bib, at }];
+                then.extend(asked.map(|question| (question, pair.call(question))));
             }
         }
         assert!(pair.card() == left.card, "the batch and its calls leave the same");
     }
+    let mut sectors = before.chunks(16).zip(pair.card().chunks(16));
+    assert!(sectors.all(|(old, new)| old == [0; 16] || old == new), "nothing written is changed");
+    then
 }
 
 /// As of every stamp from the beginning on a season card says what its records and the accepted entries say,
-/// and before it 13.
+/// and before it 13. It says what it said at the time, reads included.
 #[test]
 fn every_past_stamp() {
     rounds("season cards", 30, &[0, 3, 5, 6, 13], |seed| {
@@ -290,7 +297,7 @@ fn every_past_stamp() {
         let geometry = Geometry::with(&mut random, least + room, sectors);
         let mut pair = Pair::new(seed, copy(&card, at, geometry));
         let mut list = begun(&card, at);
-        season_day(&mut pair, &mut random, &mut list, 50);
+        let then = season_day(&mut pair, &mut random, &mut list, 50);
         let (mut stamps, bibs) = asked(&list);
         stamps.extend([at.saturating_sub(1), at]);
         for t in stamps {
@@ -301,6 +308,10 @@ fn every_past_stamp() {
             } else {
                 against_the_list(&mut pair, &list, t, &some);
             }
+        }
+        for (question, answer) in then {
+            let now = pair.call(question);
+            pair.expect(question, now, answer, "the answer given at the time");
         }
         pair.tally
     });
