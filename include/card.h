@@ -42,11 +42,11 @@
  * first. So until the first entry that leads to a fresh bucket is there, every question is answered
  * as before the call. What the call has written stays: its fresh buckets count as used, and its
  * stamp as given. In card_batch all this holds of the request at hand; what the ones before it have
- * written is whole. That is the order in the source; compiler, cache and memory keep it only where
- * they are made to. A caller who needs more makes the call on a copy and brings the changed sectors
- * over in that order. Power lost inside card_season harms its target alone: the root entry is written
- * last, and until it is there every question of the target is refused, so that the copy can be made
- * again on another blank card.
+ * written is whole. card_season writes to its target alone, and the root entry last of all: until
+ * that is there the target has no root, which is damage, and the copy has to be made again on
+ * another blank card. That is the order in the source; compiler, cache and memory keep it only
+ * where they are made to. A caller who needs more makes the call on a copy and brings the changed
+ * sectors over in that order.
  *
  * The last stamp. A post or strike needs a stamp above every stamp on the card, so one stamped
  * 4294967295 closes the card: it can be asked, but no more be written. card_state tells the largest
@@ -256,35 +256,38 @@ struct card_answer card_next(const uint8_t *card, size_t len, uint32_t bib, uint
  * the last record stay as they were. `out` is not null, its bytes can be read and written, and none
  * of them is the card's.
  * Refused: 1, head or length breaks the layout; 13, `at` before the card's beginning; both also where
- * `out` has no room for a record; 4, damage met before `out` is full. Then no byte of `out` is written.
+ * `out` has no room for a record; 4, damage met before `out` is full. Then no byte of `out` is
+ * written.
  * Leaves the card as it was. */
 struct card_tally card_records(const uint8_t *card, size_t len, uint32_t bib, uint32_t at,
                                uint8_t *out, size_t room);
 
 /* Begins a fresh card with what stands on another, for when that one is full: a season card.
  * `target` is a blank card of `target_len` bytes; buckets, sectors, td and ti are its shape, as in
- * card_format. `target` is not null, its bytes can be read and written, and none of them is the card's.
+ * card_format. `target` is not null, its bytes can be read and written, and none of them is the
+ * card's.
  * The records that stand on `card` as of `at` go to the target, just those that card_next gives one
- * after the other from bib 0, each with its own stamp; nothing of what was corrected or struck before
- * does. As of `at` the target answers as `card` does, and as of later stamps by these records and by
- * what is written to it. What was before `at` is refused there, and has to be asked of the old card.
- * A post or strike on the target needs a stamp above `at`. So `at` is best the old card's last stamp,
- * from card_state: as of CARD_NOW the target would be closed before it is used.
- * A bucket is filled to q = sectors * 3 / 4 of its sectors, whatever td is. The target needs a bucket
- * for every q of the records and one entry more, rounded up; one for every q of those buckets, rounded
- * up; and so on until it is one: two buckets at least. Those left are what it has for the season.
- * A season card can be copied again. If nothing was written to it meanwhile, its copy as of the same
- * stamp is byte for byte what a copy of the first card to that shape would be.
- * Refused: 1, head or length of the card breaks the layout; 13, `at` before the card's beginning; 8, a
- * limit of the target's shape broken or `target_len` not CARD_BYTES(buckets, sectors); 9, a byte of the
- * target nonzero; 4, damage met on the card where card_next would meet it, up to the last record; 6, the
- * target has too few buckets. Then no byte of the target is written.
+ * after the other from bib 0, each with its own stamp; nothing of what was corrected or struck
+ * before does. From `at` on the target answers by these records and by what is written to it.
+ * What was before `at` is refused there, and has to be asked of the old card.
+ * A post or strike on the target needs a stamp above `at`. So `at` is best the old card's last
+ * stamp, from card_state: as of CARD_NOW the target would be closed before it is used.
+ * A bucket is filled to q = sectors * 3 / 4 of its sectors, whatever td is. The target needs a
+ * bucket for every q of the records and one entry more, rounded up; one for every q of those
+ * buckets, rounded up; and so on until it is one: two buckets at least. Those left are what it has
+ * for the season.
+ * A season card can be copied again. If nothing was written to it meanwhile, its copy as of the
+ * same stamp is byte for byte what a copy of the first card to that shape would be.
+ * Refused: 1, head or length of the card breaks the layout; 13, `at` before the card's beginning;
+ * 8, a limit of the target's shape broken or `target_len` not CARD_BYTES(buckets, sectors); 9, a
+ * byte of the target nonzero; 4, damage met on the card where card_next would meet it, up to the
+ * end; 6, the target has too few buckets. Then no byte of the target is written.
  * Leaves the card as it was. The answer is the number alone. */
 uint32_t card_season(const uint8_t *card, size_t len, uint32_t at, uint8_t *target, size_t target_len,
                      uint32_t buckets, uint32_t sectors, uint32_t td, uint32_t ti);
 
-/* What a program has to know of a card that it opens again: its shape, its beginning, its largest stamp
- * and how many buckets are used.
+/* What a program has to know of a card that it opens again: its shape, its beginning, its largest
+ * stamp and how many buckets are used.
  * `begin` is 0 on a card made by card_format, and the stamp that a season card was made as of.
  * `last` is the largest stamp of any sector of the buckets whose kind is not 0, or 0 where there is
  * none: just what refusal 3 compares with. On a card that these calls have made it is the stamp of
