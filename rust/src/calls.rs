@@ -168,10 +168,10 @@ pub fn records<'a>(card: &[u8], bib: u32, at: u32, out: &'a mut [u8]) -> Result<
 }
 
 /// Begins a fresh card with what stands on a full one: the season card of `card` as of `at`, made on a blank
-/// `target` that is as long as the shape asks. Each record keeps its stamp. The target answers from its
-/// beginning `at` on, as `card` does until one of them is written to, and is refused as
-/// [`Refusal::TooEarly`] before; posts and strikes on it have stamps above `at`. A season card can be copied
-/// again.
+/// `target` that is as long as the shape asks. Each record keeps its stamp. From its beginning `at` on the
+/// target answers by these records and by what is written to it; questions as of an earlier stamp are refused
+/// there as [`Refusal::TooEarly`]. Posts and strikes on it have stamps above `at`, so that `at` is best the
+/// card's last stamp ([`State::last`]). A season card can be copied again.
 ///
 /// Refused as [`Refusal::Layout`] or [`Refusal::TooEarly`] for the card, [`Refusal::Shape`] or
 /// [`Refusal::NotBlank`] for the target, [`Refusal::Damage`] where a scroll through the card would be, or
