@@ -1,13 +1,16 @@
 -- `survey::stamp_of` reads a sector's stamp field.
 use borrow.Author.Needs.{needs}
 use borrow.Author.Tests.{eq-eqb, ne-eqb}
+use native.Mathlib.Omega.{arith}
+use lib.ListN.{getD}
+use denote.Ref.{now}
 use Rattle.rules.specs.Write.{stampOf}
 use Rattle.survey.proofs.stamp_of.Statement.{statement}
 use Rattle.survey.proofs.stamp_of.Tie as tie
 
 returns : tie.Need-returns
 unfolding stampOf
-returns c = rw (eq-eqb _ _ (c .if1 .taken))
+returns c = let s = now (c .before .before .before .args .s) in rw (eq-eqb (getD s 0 0) 0 (omega (arith, c .if1 .taken)))
 
 returns-2 : tie.Need-returns-2
 unfolding stampOf

@@ -1,5 +1,6 @@
 -- `write::objection` gives the number of what the walk's end objects to.
 use borrow.Author.Needs.{needs}
+use native.Mathlib.Omega.{arith}
 use borrow.Author.Tests.{eq-eqb, ne-eqb}
 use Rattle.write.specs.Plans.{codeOf}
 use Rattle.write.proofs.objection.Statement.{statement}
@@ -18,7 +19,7 @@ unfolding codeOf
 returns-3 c =
     let at-if2 = c .before .before in
     let at-found = at-if2 .before .before in
-    rw (at-found .found .given .1, ne-eqb _ _ (at-if2 .if2 .left), eq-eqb _ _ (c .if3 .taken))
+    rw (at-found .found .given .1, ne-eqb _ _ (at-if2 .if2 .left), eq-eqb (at-found .found .given .0 .0 .kind) 1 (omega (arith, c .if3 .taken)))
 
 returns-4 : tie.Need-returns-4
 unfolding codeOf

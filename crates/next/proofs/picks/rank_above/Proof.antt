@@ -9,8 +9,10 @@ use Rattle.next.proofs.picks.rank_above.Tie as tie
 returns : tie.Need-returns
 unfolding rankAbove
 returns c =
-    let key = c .before .before .before .before .wide .ensures in
-    (rw (le-leb _ _ (c .before .before .if1 .taken), lt-ltb _ _ (c .if2 .taken), key .0), omega arith)
+    let at-wide = c .before .before .before .before in
+    let a = at-wide .before .args in
+    let key = at-wide .wide .ensures in
+    (rw (le-leb (a .e .stamp) (a .t) (omega (arith, c .before .before .if1 .taken)), lt-ltb (a .x) (a .e .key) (omega (arith, c .if2 .taken)), key .0), omega arith)
 
 returns-2 : tie.Need-returns-2
 unfolding rankAbove
