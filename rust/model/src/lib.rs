@@ -7,6 +7,7 @@
 
 mod answer;
 mod batch;
+pub mod bench;
 mod beside;
 mod blank;
 mod bucket;
