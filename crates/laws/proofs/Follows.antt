@@ -17,6 +17,3 @@ refuses p card r c q e = record { answer = e ∙ ap planAnswer (sym q); bytes = 
 pub accepts : (p : Plan) (card new : List ℕ) (r : Answer) → p ≡ accept new → r ≡ refused 0 → Follows p card r new
 unfolding planAnswer planCard
 accepts p card new r q e = record { answer = e ∙ ap planAnswer (sym q); bytes = ap (planCard card) (sym q) }
-
-pub follows-same : (p q : Plan) (card : List ℕ) (r : Answer) (new : List ℕ) → p ≡ q → Follows q card r new → Follows p card r new
-follows-same p q card r new e f = record { answer = f .answer ∙ ap planAnswer (sym e); bytes = f .bytes ∙ ap (planCard card) (sym e) }

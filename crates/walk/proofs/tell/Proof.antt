@@ -1,5 +1,6 @@
 -- `walk::tell` meets its contract: the answer that a walk's end gives: a strike, or no copy, is none.
 use borrow.Author.Tests.{eq-eqb, ne-eqb}
+use native.Mathlib.Omega.{arith}
 use Rattle.rules.specs.Answers.{sheet}
 use Rattle.rules.specs.Sector.{isPost}
 use Rattle.rules.specs.Walk.{standing}
@@ -10,7 +11,9 @@ use Rattle.walk.proofs.tell.Tie as tie
 
 returns : tie.Need-returns
 unfolding told sheet standing isPost
-returns c = rw (c .before .before .before .found .given .1, eq-eqb _ _ (c .if1 .taken))
+returns c =
+    let hit = c .before .before .before .found in
+    rw (hit .given .1, eq-eqb (hit .given .0 .0 .kind) 1 (omega (arith, c .if1 .taken)))
 
 returns-2 : tie.Need-returns-2
 unfolding told
