@@ -191,7 +191,7 @@ struct card_digits {
 /* Makes a blank card an empty one of `buckets` buckets of `sectors` sectors.
  * `td` and `ti` decide what becomes of a full bucket: its entries are thinned to the last of each
  * key and go to one fresh bucket where fewer than `td` (a data bucket) or `ti` (an index bucket)
- * are left, else to two. td 0 means three quarters of `sectors` rounded down, sectors * 3 / 4;
+ * are left, else to two. td 0 means half of `sectors` rounded down, sectors / 2;
  * ti 0 means `sectors` less an eighth of them rounded down, sectors - sectors / 8.
  * Refused: 8, a limit broken or `len` not CARD_BYTES(buckets, sectors); 9, a byte of the card
  * nonzero.

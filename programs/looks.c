@@ -23,7 +23,7 @@ int main(int argc, char **argv) {
     uint32_t sectors = argc == 3 ? (uint32_t)strtoul(argv[1], NULL, 10) : 0;
     size_t len = sectors <= CARD_SECTORS_MAX ? CARD_BYTES(BUCKETS, sectors) : 0;
     uint32_t stamp = 0, sum = 0, i;
-    if (card_format(card, len, BUCKETS, sectors, 0, 0).code != CARD_OK) {
+    if (card_format(card, len, BUCKETS, sectors, 3 * sectors / 4, 0).code != CARD_OK) {
         fputs("looks SECTORS latest|now|past|none\n", stderr);
         return 2;
     }

@@ -55,7 +55,7 @@ static void limits(void) {
 static void thresholds(void) {
     uint8_t card[CARD_BYTES(2, 15)] = {0};
     CHECK(card_format(card, sizeof card, 2, 15, 0, 0).code == CARD_OK);
-    CHECK(card[2] == 11 && card[3] == 14);
+    CHECK(card[2] == 7 && card[3] == 14);
 }
 
 /* Each answer number, from a call that gives it. */
@@ -137,7 +137,7 @@ static void seven(uint8_t *card, size_t len) {
 
 /* Seven records and one entry more, three to a bucket: three buckets and one over them. */
 static void seasons(void) {
-    static const struct card_state begun = {CARD_OK, 4, 4, 3, 4, 7, 7, 4};
+    static const struct card_state begun = {CARD_OK, 4, 4, 2, 4, 7, 7, 4};
     static const struct card_answer found = {CARD_OK, 70, 7, 107, 2}, early = {CARD_TOO_EARLY, 0, 0, 0, 0};
     uint8_t card[CARD_BYTES(16, 4)] = {0}, target[CARD_BYTES(4, 4)] = {0}, page[CARD_SECTOR_BYTES];
     struct card_state state;

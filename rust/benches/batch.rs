@@ -147,7 +147,7 @@ fn main() {
     println!("|---|---|---|---|---|---|---|---|---|---|");
     for (name, buckets, sectors) in [("64 KiB", 819, 4), ("largest", 4096, 32)] {
         if picked(name) {
-            let grown = Grown::new(Geometry { buckets, sectors, td: 0, ti: 0 });
+            let grown = Grown::new(Geometry { buckets, sectors, td: 3 * sectors / 4, ti: 0 });
             for size in [1, 16, 256, 1600] {
                 compare(name, &grown, &mut random, size);
             }

@@ -72,7 +72,7 @@ fn main() {
     println!("|---|---|---|---|---|");
     for (name, buckets, sectors) in [("64 KiB", 819, 4), ("largest", 4096, 32)] {
         if picked(name) {
-            compare(name, &Grown::new(Geometry { buckets, sectors, td: 0, ti: 0 }));
+            compare(name, &Grown::new(Geometry { buckets, sectors, td: 3 * sectors / 4, ti: 0 }));
         }
     }
 }

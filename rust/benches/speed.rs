@@ -108,7 +108,7 @@ fn main() {
     println!("| card | call | library ns | Rust ns | library / Rust |");
     println!("|---|---|---|---|---|");
     for (name, buckets, sectors, many) in [("64 KiB", 819, 4, 32), ("largest", 4096, 32, 4)] {
-        let grown = Grown::new(Geometry { buckets, sectors, td: 0, ti: 0 });
+        let grown = Grown::new(Geometry { buckets, sectors, td: 3 * sectors / 4, ti: 0 });
         reads(name, &grown, &mut random, 16 * many);
         writes(name, &grown, &mut random, many);
     }

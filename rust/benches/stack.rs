@@ -52,7 +52,7 @@ fn splitting(grown: &Grown) -> Call {
 }
 
 fn main() {
-    let grown = Grown::new(Geometry { buckets: 819, sectors: 4, td: 0, ti: 0 });
+    let grown = Grown::new(Geometry { buckets: 819, sectors: 4, td: 3, ti: 0 });
     let (bib, at) = (grown.bibs[grown.bibs.len() / 2], grown.stamp + 1);
     println!("| call | library, bytes of stack | Rust, bytes of stack |");
     println!("|---|---|---|");

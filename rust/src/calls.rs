@@ -215,7 +215,7 @@ pub fn season(card: &[u8], at: u32, target: &mut [u8], shape: Shape) -> Result<(
 /// card::strike(&mut bytes, 7, 110)?;
 /// let state = card::state(&bytes)?;
 /// assert_eq!((state.last, state.used), (110, 2));
-/// assert_eq!(state.shape, Shape::new(16, 4).td(3).ti(4));
+/// assert_eq!(state.shape, Shape::new(16, 4).td(2).ti(4));
 /// # Ok::<(), Refusal>(())
 /// ```
 pub fn state(card: &[u8]) -> Result<State, Refusal> {

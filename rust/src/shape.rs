@@ -8,8 +8,7 @@ pub struct Shape {
     pub buckets: u32,
     /// From 4 to 32.
     pub sectors: u32,
-    /// For data buckets: from 2 to `sectors`. 0 means three quarters of them, rounded down:
-    /// `sectors * 3 / 4`.
+    /// For data buckets: from 2 to `sectors`. 0 means half of them, rounded down: `sectors / 2`.
     pub td: u32,
     /// For index buckets: from 4 to `sectors`. 0 means all of them less an eighth, that eighth
     /// rounded down: `sectors - sectors / 8`.

@@ -1,5 +1,5 @@
 //! The factory script: what a maker of controllers runs on each at the end of its assembly, and the answers
-//! it is held to.
+//! it is held to. It names the threshold that a td of 0 meant when its answers were stored.
 
 mod common;
 
@@ -22,12 +22,12 @@ fn every_side_gives_the_stored_answers() {
     }
 }
 
-/// A card with another threshold is full at another post, and other looks read another number of buckets.
+/// With td 0 the card is full at another post, and looks read another number of buckets.
 #[test]
-fn the_answers_depend_on_the_threshold() {
-    let half = LINES.replace("buckets=28 sectors=4 td=0", "buckets=28 sectors=4 td=2");
+fn other_answers_with_td_0() {
+    let default = LINES.replace("td=3", "td=0");
     for calls in [MODEL, LIBRARY, WRAPPER] {
-        let other = answers(&calls, &half);
+        let other = answers(&calls, &default);
         let differs = |part: fn(&str) -> &str| ANSWERS.lines().map(part).ne(other.lines().map(part));
         assert!(differs(|line| line.split(' ').next().unwrap()), "codes");
         assert!(differs(|line| line.rsplit(' ').next().unwrap()), "reads");

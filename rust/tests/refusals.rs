@@ -86,7 +86,7 @@ fn a_batch_in_rust_types() {
 fn shapes_as_the_head_has_them() {
     let shape = Shape::new(3, 15);
     let shapes =
-        [(shape, [11, 14]), (shape.td(2), [2, 14]), (shape.ti(5), [11, 5]), (shape.td(7).ti(9), [7, 9])];
+        [(shape, [7, 14]), (shape.td(2), [2, 14]), (shape.ti(5), [7, 5]), (shape.td(8).ti(9), [8, 9])];
     for (shape, [td, ti]) in shapes {
         let mut bytes = vec![0; shape.bytes().unwrap()];
         card::format(&mut bytes, shape).unwrap();

@@ -48,10 +48,11 @@ fn stamp(list: &List, random: &mut Random) -> u32 {
 
 // Cards reckoned by hand.
 
-/// A card of four buckets of four sectors with these entries, by bucket and sector, and this beginning.
+/// A card of four buckets of four sectors with these entries, by bucket and sector, and this beginning; its
+/// TD is what 0 means.
 fn four(begin: u32, root: u32, entries: &[(u32, usize, Entry)]) -> Vec<u8> {
     let mut card = vec![0; length(4, 4)];
-    put_head(&mut card, 4, 4, 3, 4);
+    put_head(&mut card, 4, 4, 2, 4);
     set(&mut card, 8, begin);
     put(&mut card, 1, (4, 0, begin, root));
     for &(bucket, sector, entry) in entries {
@@ -60,7 +61,7 @@ fn four(begin: u32, root: u32, entries: &[(u32, usize, Entry)]) -> Vec<u8> {
     card
 }
 
-/// Four sectors take three entries. The dummy and four records go to two buckets, and a third has the index;
+/// Four sectors take three entries, whatever TD is. The dummy and four records go to two buckets, and a third has the index;
 /// each record keeps its stamp.
 #[test]
 fn the_session_as_of_49() {
@@ -79,7 +80,7 @@ fn the_session_as_of_49() {
     );
     let season = copy(&session(), 49, shape(4, 4));
     assert_eq!(season, expected);
-    let state = State { code: 0, buckets: 4, sectors: 4, td: 3, ti: 4, begin: 49, last: 49, used: 3 };
+    let state = State { code: 0, buckets: 4, sectors: 4, td: 2, ti: 4, begin: 49, last: 49, used: 3 };
     assert_eq!((LIBRARY.state)(&season), state);
 }
 

@@ -1,5 +1,5 @@
 //! The training cards: each made again from its lines by the library and by the model, and held to the
-//! stored bytes.
+//! stored bytes. Their lines name the threshold that a td of 0 meant when they were stored.
 
 mod common;
 
@@ -38,13 +38,14 @@ fn made_again_from_their_lines() {
     }
 }
 
-/// With half of the sectors as threshold there would be other buckets.
+/// With td 0 there would be other buckets.
 #[test]
-fn other_cards_with_another_threshold() {
+fn other_cards_with_td_0() {
     for (name, lines, card) in CARDS {
         let (format, calls) = calls(lines);
-        let Call::Format { buckets, sectors, ti, .. } = format else { panic!("{format:?} comes first") };
-        let half = made(Call::Format { buckets, sectors, td: sectors / 2, ti }, &calls);
-        assert!(half[16..] != card[16..], "{name}");
+        let Call::Format { buckets, sectors, td, ti } = format else { panic!("{format:?} comes first") };
+        assert_eq!(td, 3 * sectors / 4, "{name}");
+        let other = made(Call::Format { buckets, sectors, td: 0, ti }, &calls);
+        assert!(other[16..] != card[16..], "{name}");
     }
 }

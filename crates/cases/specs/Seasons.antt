@@ -28,7 +28,7 @@ struckLater =
     ∷ holds 2 (post 8 10 61230 ∷ post 11 30 59990 ∷ Blank ∷ Blank ∷ [])
     ∷ holds 3 (index 0 49 1 ∷ index 8 49 2 ∷ Blank ∷ Blank ∷ [])
     ∷ logs (root 49 3 ∷ Blank ∷ [])
-    ∷ tells (0 ∷ 8 ∷ 4 ∷ 3 ∷ 4 ∷ 49 ∷ 49 ∷ 3 ∷ [])
+    ∷ tells (0 ∷ 8 ∷ 4 ∷ 2 ∷ 4 ∷ 49 ∷ 49 ∷ 3 ∷ [])
     ∷ []
 
 -- ten results go on as of 100: there are two index levels, the last bucket of the lower one thin, and six buckets are too few
@@ -56,7 +56,7 @@ twoLevels =
     ∷ holds 6 (index 20 100 4 ∷ Blank ∷ Blank ∷ Blank ∷ [])
     ∷ holds 7 (index 0 100 5 ∷ index 20 100 6 ∷ Blank ∷ Blank ∷ [])
     ∷ logs (root 100 7 ∷ Blank ∷ Blank ∷ Blank ∷ Blank ∷ Blank ∷ Blank ∷ [])
-    ∷ tells (0 ∷ 7 ∷ 4 ∷ 3 ∷ 4 ∷ 100 ∷ 100 ∷ 7 ∷ [])
+    ∷ tells (0 ∷ 7 ∷ 4 ∷ 2 ∷ 4 ∷ 100 ∷ 100 ∷ 7 ∷ [])
     -- as of its beginning it answers with the stamps that it was given, and before it not at all
     ∷ says (lookCall 9 100) (answer 0 9 80 9007 3)
     ∷ says (nextCall 20 100) (answer 0 30 100 30009 0)
@@ -69,7 +69,7 @@ twoLevels =
     ∷ holds 3 (post 30 100 30009 ∷ Blank ∷ Blank ∷ Blank ∷ Blank ∷ Blank ∷ Blank ∷ [])
     ∷ holds 4 (index 0 200 1 ∷ index 9 200 2 ∷ index 30 200 3 ∷ Blank ∷ Blank ∷ Blank ∷ Blank ∷ [])
     ∷ logs (root 200 4 ∷ Blank ∷ Blank ∷ Blank ∷ [])
-    ∷ tells (0 ∷ 4 ∷ 7 ∷ 5 ∷ 7 ∷ 200 ∷ 200 ∷ 4 ∷ [])
+    ∷ tells (0 ∷ 4 ∷ 7 ∷ 3 ∷ 7 ∷ 200 ∷ 200 ∷ 4 ∷ [])
     ∷ says (postCall 10 200 1) (refused 3)
     ∷ ok (postCall 10 201 10010)
     ∷ says (lookCall 10 201) (answer 0 10 201 10010 2)

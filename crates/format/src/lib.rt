@@ -27,7 +27,7 @@ pub fn meant(buckets: u32, sectors: u32, td: u32, ti: u32) -> Head
     let m = sectors as usize;
     Head {
         m,
-        td: or_else(td as usize, 3 * m / 4),
+        td: or_else(td as usize, m / 2),
         ti: or_else(ti as usize, m - m / 8),
         n: buckets as usize,
     }

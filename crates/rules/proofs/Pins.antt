@@ -26,12 +26,12 @@ headFrom m td ti n begin = 6 ∷ m ∷ td ∷ ti ∷ n ∷ 0 ∷ 0 ∷ 0 ∷ beg
 abbrev head : ℕ → ℕ → ℕ → ℕ → List ℕ
 head m td ti n = headFrom m td ti n 0
 
--- "a TD of 0 means floor(3m/4), a TI of 0 means m - floor(m/8)"
+-- "A td of 0 shall mean floor(m/2)", "a TI of 0 means m - floor(m/8)"
 abbrev default : ℕ → ℕ → ℕ → List Line
 default m td ti = anew ∷ ok (formatCall 2 m 0 0) ∷ bytes 0 (head m td ti 2) ∷ []
 
 abbrev defaults : List Line
-defaults = default 4 3 4 ++ (default 5 3 5 ++ (default 7 5 7 ++ (default 8 6 7 ++ (default 15 11 14 ++ default 32 24 28))))
+defaults = default 4 2 4 ++ (default 5 2 5 ++ (default 7 3 7 ++ (default 8 4 7 ++ (default 15 7 14 ++ default 32 16 28))))
 
 -- "m 4..32, N 2..4096, TD 2..m, TI 4..m", each at its border
 abbrev limits : List Line
@@ -316,7 +316,7 @@ seasons =
     ∷ ok (formatCall 2 4 3 4)
     ∷ ok (postCall 8 10 61)
     ∷ goesOn (blank 2) 9 2 4 0 0 0
-    ∷ bytes 0 (headFrom 4 3 4 2 9)
+    ∷ bytes 0 (headFrom 4 2 4 2 9)
     ∷ logs (Held (rootEntry 9 2) ∷ Blank ∷ [])
     ∷ holds 1 (Held (strikeEntry 0 0) ∷ Blank ∷ Blank ∷ Blank ∷ [])
     ∷ holds 2 (index 0 9 1 ∷ Blank ∷ Blank ∷ Blank ∷ [])

@@ -16,9 +16,9 @@ unfoldable pub orElse : ℕ → ℕ → ℕ
 orElse zero d = d
 orElse (suc x) d = suc x
 
--- "In format a TD of 0 means floor(3m/4), a TI of 0 means m - floor(m/8); the head stores the number meant"
+-- "A td of 0 shall mean floor(m/2)"; "a TI of 0 means m - floor(m/8); the head stores the number meant"
 unfoldable pub meant : ℕ → ℕ → ℕ → ℕ → Head
-meant n m td ti = record { m = m; td = orElse td (3 * m / 4); ti = orElse ti (m - m / 8); n = n }
+meant n m td ti = record { m = m; td = orElse td (m / 2); ti = orElse ti (m - m / 8); n = n }
 
 -- "the dummy: a strike, key 0"
 abbrev pub dummy : Entry

@@ -25,7 +25,7 @@ impl Head {
         let m = sectors.min(33);
         Head {
             sectors,
-            td: if td == 0 { 3 * m / 4 } else { td },
+            td: if td == 0 { m / 2 } else { td },
             ti: if ti == 0 { m - m / 8 } else { ti },
             buckets,
             begin: 0,

@@ -10,4 +10,4 @@ returns c = rw (c .before .or-else .ensures, c .or-else2 .ensures)
 
 pub meant-spec : {M : Type 1} → statement M
 meant-spec =
-    tie.close (tie.spec (λ c. search needs) (λ c κs. search needs) (λ c. search needs) (λ c κs. search needs) returns)
+    tie.close (tie.spec (λ c. search needs) (λ c. search needs) (λ c κs. search needs) returns)
