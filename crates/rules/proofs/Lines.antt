@@ -18,13 +18,13 @@ use Rattle.rules.specs.Season.{season}
 use Rattle.rules.specs.State.{state}
 use Rattle.rules.specs.Batch.{batch}
 use Rattle.rules.specs.Panel.{panel}
-use Rattle.rules.specs.Calls.{Call}
+use Rattle.rules.specs.Calls.{Call, Ask, noted}
 use Rattle.rules.specs.Bench.{benchCall}
 
 -- no card any more; a call and its answer; a season card on a target as of a stamp, with buckets, sectors, TD, TI and the number it answers,
 -- which is the card from then on; other bytes in a sector; a call and its answer on the card with other bytes in a sector;
 -- a bucket and its m sectors; the log's first sectors; a sector's bytes; the highest bucket written; the state's eight numbers; a batch's requests
--- and places, its number and answers; a time, a field, the number and places it gives
+-- and places, its number and answers; a slice lent for a journal; a journal's call and its answer; a time, a field, the number and places it gives
 pub data Line : Type 0 where
   anew : Line
   says : Call → Answer → Line
@@ -37,6 +37,8 @@ pub data Line : Type 0 where
   used : ℕ → Line
   tells : List ℕ → Line
   loads : List ℕ → List ℕ → ℕ → List ℕ → Line
+  lent : List ℕ → Line
+  notes : Ask → Answer → Line
   shows : ℕ → ℕ → ℕ → List ℕ → Line
 
 unfoldable pub same : List ℕ → List ℕ → Bool
@@ -96,6 +98,8 @@ right card (bytes i bs) = same (sectorAt card i) bs
 right card (used k) = usedIn card (headOf card) k
 right card (tells ns) = same (numbersOf (state card)) ns
 right card (loads requests places c answers) = let b = batch card requests places in eqb (b .code) c & same (b .answers) answers
+right card (lent slice) = true
+right card (notes q a) = sameAnswer (noted card q .answer) a
 right card (shows time field c ps) = sameDigits (panel time field) c ps
 
 unfoldable pub cardNext : List ℕ → Line → List ℕ
@@ -110,6 +114,8 @@ cardNext card (bytes i bs) = card
 cardNext card (used k) = card
 cardNext card (tells ns) = card
 cardNext card (loads requests places c answers) = batch card requests places .card
+cardNext card (lent slice) = slice
+cardNext card (notes q a) = noted card q .card
 cardNext card (shows time field c ps) = card
 
 unfoldable pub passes : List ℕ → List Line → Bool

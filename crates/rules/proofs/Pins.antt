@@ -1,5 +1,5 @@
 -- What cases (a) to (h) leave open: the bytes themselves, the defaults, the limits, each refusal in its order, each kind of damage,
--- the strike just added, and cards with a beginning. One statement over one list, which the checker computes.
+-- the strike just added, cards with a beginning, and journals. One statement over one list, which the checker computes.
 use Prim.Native.Nat.{ℕ, _+_, _*_}
 use mathlib.Core.List.{List, [], _∷_, _++_}
 use lib.Dec.{T}
@@ -9,8 +9,8 @@ use Rattle.rules.specs.declared.Sector.{Sector}
 use Rattle.rules.specs.declared.Sector.the-variants.{Blank, Held}
 use Rattle.rules.specs.Sector.{put, postEntry, strikeEntry, indexEntry, rootEntry}
 use Rattle.rules.specs.Answers.{answer, refused}
-use Rattle.rules.specs.Calls.{Call, formatCall, postCall, strikeCall, lookCall, nextCall}
-use Rattle.rules.proofs.Lines.{Line, anew, says, goesOn, writes, spoilt, holds, logs, bytes, used, tells, loads, shows, passes}
+use Rattle.rules.specs.Calls.{Call, formatCall, postCall, strikeCall, lookCall, nextCall, postAsk, strikeAsk, lookAsk, nextAsk}
+use Rattle.rules.proofs.Lines.{Line, anew, says, goesOn, writes, spoilt, holds, logs, bytes, used, tells, loads, lent, notes, shows, passes}
 
 abbrev ok : Call → Line
 ok k = says k (answer 0 0 0 0 0)
@@ -322,8 +322,80 @@ seasons =
     ∷ holds 2 (index 0 9 1 ∷ Blank ∷ Blank ∷ Blank ∷ [])
     ∷ []
 
+-- slices that are no journal: each call answers 1, ahead of 2
+abbrev unsound : List (List ℕ) → List Line
+unsound [] = []
+unsound (slice ∷ more) =
+    lent slice
+    ∷ notes (postAsk 0 9 1) (refused 1)
+    ∷ notes (strikeAsk 0 9) (refused 1)
+    ∷ notes (lookAsk 0 9) (refused 1)
+    ∷ notes (nextAsk 0 9) (refused 1)
+    ∷ unsound more
+
+-- not a multiple of 16 long; other kinds; rows of the table broken; stamps that do not rise from 1; a blank in the run; a mark
+abbrev noJournal : List Line
+noJournal =
+    unsound (
+    (0 ∷ []) ∷ (raw 1 0 1 1 1 ++ (0 ∷ [])) ∷ raw 3 0 0 1 1 ∷ raw 4 0 0 1 1 ∷ raw 6 0 1 1 1 ∷ raw 255 0 0 0 0 ∷ raw 0 0 0 1 0
+    ∷ raw 1 0 0 1 1 ∷ raw 1 1 1 1 1 ∷ raw 2 0 1 1 1 ∷ raw 2 0 0 1 0 ∷ raw 1 0 1 0 1 ∷ raw 2 0 1 0 0 ∷ raw 2 0 0 0 0
+    ∷ (raw 1 0 1 2 1 ++ raw 1 0 2 2 1) ∷ (raw 1 0 1 2 1 ++ raw 1 0 2 1 1) ∷ (raw 0 0 0 0 0 ++ raw 1 0 1 1 1)
+    ∷ []
+    )
+
+-- an empty slice is a journal and full; on four sectors the bytes laid down, 2 ahead of 3, 3 ahead of 5, 5 ahead of 6; a correction, a strike
+-- and what stood before them. A strike that struck nothing is read as any other, and a blank slice has no stamp above 0
+abbrev journals : List Line
+journals =
+    noJournal
+    ++ (lent []
+    ∷ notes (postAsk 0 1 1) (refused 2)
+    ∷ notes (postAsk 1 0 1) (refused 3)
+    ∷ notes (strikeAsk 1 1) (refused 5)
+    ∷ notes (postAsk 1 1 1) (refused 6)
+    ∷ notes (lookAsk 1 9) (answer 0 1 0 0 0)
+    ∷ notes (nextAsk 0 9) (answer 0 0 0 0 0)
+    ∷ lent (replicate 64 0)
+    ∷ notes (strikeAsk 0 0) (refused 2)
+    ∷ notes (postAsk 8 0 61) (refused 3)
+    ∷ notes (strikeAsk 8 1) (refused 5)
+    ∷ notes (postAsk 16909060 10 61230) (refused 0)
+    ∷ bytes 0 (1 ∷ 0 ∷ 0 ∷ 0 ∷ 4 ∷ 3 ∷ 2 ∷ 1 ∷ 10 ∷ 0 ∷ 0 ∷ 0 ∷ 46 ∷ 239 ∷ 0 ∷ 0 ∷ [])
+    ∷ bytes 1 (raw 0 0 0 0 0)
+    ∷ notes (postAsk 8 10 61) (refused 3)
+    ∷ notes (postAsk 8 20 61) (refused 0)
+    ∷ notes (strikeAsk 8 30) (refused 0)
+    ∷ notes (strikeAsk 8 40) (refused 5)
+    ∷ notes (postAsk 3 40 58) (refused 0)
+    ∷ bytes 1 (raw 1 0 8 20 61)
+    ∷ bytes 2 (raw 2 0 8 30 0)
+    ∷ bytes 3 (raw 1 0 3 40 58)
+    ∷ notes (lookAsk 0 9) (refused 2)
+    ∷ notes (lookAsk 8 19) (answer 0 8 0 0 0)
+    ∷ notes (lookAsk 8 29) (answer 0 8 20 61 0)
+    ∷ notes (lookAsk 8 30) (answer 0 8 0 0 0)
+    ∷ notes (nextAsk 0 39) (answer 0 16909060 10 61230 0)
+    ∷ notes (nextAsk 0 40) (answer 0 3 40 58 0)
+    ∷ notes (nextAsk 3 29) (answer 0 8 20 61 0)
+    ∷ notes (nextAsk 3 30) (answer 0 16909060 10 61230 0)
+    ∷ notes (nextAsk 16909060 40) (answer 0 0 0 0 0)
+    ∷ notes (strikeAsk 0 0) (refused 2)
+    ∷ notes (strikeAsk 8 40) (refused 3)
+    ∷ notes (strikeAsk 8 50) (refused 5)
+    ∷ notes (strikeAsk 3 50) (refused 6)
+    ∷ notes (postAsk 8 50 60) (refused 6)
+    ∷ lent (raw 2 0 8 1 0 ++ (raw 1 0 8 2 61 ++ (raw 1 0 8 3 60 ++ raw 0 0 0 0 0)))
+    ∷ notes (lookAsk 8 1) (answer 0 8 0 0 0)
+    ∷ notes (lookAsk 8 2) (answer 0 8 2 61 0)
+    ∷ notes (lookAsk 8 9) (answer 0 8 3 60 0)
+    ∷ notes (nextAsk 7 2) (answer 0 8 2 61 0)
+    ∷ notes (strikeAsk 8 4) (refused 0)
+    ∷ bytes 2 (raw 1 0 8 3 60)
+    ∷ bytes 3 (raw 2 0 8 4 0)
+    ∷ [])
+
 abbrev pub pins : List Line
-pins = defaults ++ (limits ++ (two ++ (damage ++ (rewritten ++ (passedOver ++ (batches ++ (begun ++ (fields ++ seasons))))))))
+pins = defaults ++ (limits ++ (two ++ (damage ++ (rewritten ++ (passedOver ++ (batches ++ (begun ++ (fields ++ (seasons ++ journals)))))))))
 
 pub pins-pass : T (passes [] pins)
 unfolding rules

@@ -1,4 +1,4 @@
--- The five calls, what each does to a card and what it answers.
+-- The five calls, what each does to a card and what it answers; and the four of them that a journal takes.
 use Prim.Native.Nat.{ℕ}
 use mathlib.Core.List.{List}
 use Rattle.rules.specs.declared.Answer.{Answer}
@@ -6,6 +6,7 @@ use Rattle.rules.specs.Look.{look}
 use Rattle.rules.specs.Next.{next}
 use Rattle.rules.specs.Write.{Plan, planCard, planAnswer, post, strike}
 use Rattle.rules.specs.Format.{format}
+use Rattle.rules.specs.Journal.{journalPost, journalStrike, journalLook, journalNext}
 
 -- format: buckets, sectors, TD, TI; post: bib, stamp, time; strike, look, next: bib, stamp
 pub data Call : Type 0 where
@@ -33,3 +34,24 @@ called card (postCall bib at time) = planned card (post card bib at time)
 called card (strikeCall bib at) = planned card (strike card bib at)
 called card (lookCall bib at) = answered card (look card bib at)
 called card (nextCall bib at) = answered card (next card bib at)
+
+-- "Post, strike, look and next answer as the card does"
+pub data Ask : Type 0 where
+  postAsk : ℕ → ℕ → ℕ → Ask
+  strikeAsk : ℕ → ℕ → Ask
+  lookAsk : ℕ → ℕ → Ask
+  nextAsk : ℕ → ℕ → Ask
+
+-- the same call of a card
+abbrev pub callOf : Ask → Call
+callOf (postAsk bib at time) = postCall bib at time
+callOf (strikeAsk bib at) = strikeCall bib at
+callOf (lookAsk bib at) = lookCall bib at
+callOf (nextAsk bib at) = nextCall bib at
+
+-- a journal afterwards, and its answer
+unfoldable pub noted : List ℕ → Ask → Done
+noted slice (postAsk bib at time) = planned slice (journalPost slice bib at time)
+noted slice (strikeAsk bib at) = planned slice (journalStrike slice bib at)
+noted slice (lookAsk bib at) = answered slice (journalLook slice bib at)
+noted slice (nextAsk bib at) = answered slice (journalNext slice bib at)

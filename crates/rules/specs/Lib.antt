@@ -13,6 +13,7 @@ pub mod Records
 pub mod Season
 pub mod State
 pub mod Batch
+pub mod Journal
 pub mod Calls
 pub mod Panel
 pub mod Bench
