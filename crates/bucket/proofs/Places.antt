@@ -45,7 +45,7 @@ module _ (n : ℕ) (part : List ℕ) (i hit : ℕ) (e : Entry) (held : decode n 
   key-here = rw add-one (ap (λ (d : Entry). d .key) (sym (held-inv n (sectorAt part i) e held .0)))
 
   -- a yes or no chooses between it and the best so far
-  choice : (b : Bool) → if b (Hit e) (foundAt part hit) ≡ foundAt part (if b (i + 1) hit)
+  pub choice : (b : Bool) → if b (Hit e) (foundAt part hit) ≡ foundAt part (if b (i + 1) hit)
   choice true = here
   choice false = refl
 

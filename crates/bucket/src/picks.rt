@@ -9,7 +9,7 @@ use rules::Entry;
 use scan::Found;
 use scan::Way;
 
-fn is_data(e: Entry) -> bool
+pub fn is_data(e: Entry) -> bool
     ensures { λ r. ⌜ r ≡ isData e ⌝ }
 {
     if e.kind == 1 {

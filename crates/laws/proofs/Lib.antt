@@ -30,3 +30,4 @@ pub mod Carries
 pub mod Roots
 pub mod Numbers
 pub mod Requests
+pub mod Journals

@@ -74,7 +74,7 @@ fn walk_to(card: &[u8], head: Head, root: u32, k: u32, x: u32, t: u32) -> Leg
     }
 }
 
-fn given(e: Entry) -> Answer
+pub fn given(e: Entry) -> Answer
     ensures { λ r. ⌜ r ≡ answer 0 (e .key) (e .stamp) (e .value) 0 ⌝ }
 {
     Answer {
@@ -86,7 +86,7 @@ fn given(e: Entry) -> Answer
     }
 }
 
-fn at_end() -> Answer
+pub fn at_end() -> Answer
     ensures { λ r. ⌜ r ≡ ended ⌝ }
 {
     Answer {

@@ -133,18 +133,18 @@ unfolding standingAbove
 stand-above k t es = stand-fold k t es Nothing ∙ fold-under (only (wanted k) (lasts (left t es)))
 
 -- how a run begins
-blank-nil : (r : Option (List Entry)) (es : List Entry) → onto Blank r ≡ some es → es ≡ []
+pub blank-nil : (r : Option (List Entry)) (es : List Entry) → onto Blank r ≡ some es → es ≡ []
 unfolding onto
 blank-nil none es h = absurd (none-some h)
 blank-nil (some []) es h = cc
 blank-nil (some (e ∷ r)) es h = absurd (none-some h)
 
-held-cons : (e : Entry) (r : Option (List Entry)) (es : List Entry) → onto (Held e) r ≡ some es → (xs : List Entry) × (es ≡ e ∷ xs) × (r ≡ some xs)
+pub held-cons : (e : Entry) (r : Option (List Entry)) (es : List Entry) → onto (Held e) r ≡ some es → (xs : List Entry) × (es ≡ e ∷ xs) × (r ≡ some xs)
 unfolding onto
 held-cons e none es h = absurd (none-some h)
 held-cons e (some xs) es h = (xs, cc, refl)
 
-damaged-no : (r : Option (List Entry)) (es : List Entry) → onto Damaged r ≡ some es → ⊥
+pub damaged-no : (r : Option (List Entry)) (es : List Entry) → onto Damaged r ≡ some es → ⊥
 unfolding onto
 damaged-no r es h = none-some h
 

@@ -82,7 +82,7 @@ pub fn refusal(code: u32) -> Answer
 }
 
 // The answer that a walk's end gives: a strike, or no copy, is none.
-fn tell(bib: u32, reads: u32, found: Found) -> Answer
+pub fn tell(bib: u32, reads: u32, found: Found) -> Answer
     ensures { λ r. ⌜ r ≡ told bib reads found ⌝ }
 {
     let none = Answer {
