@@ -1,0 +1,3 @@
+pub mod Readings
+pub mod Turns
+pub mod Plans

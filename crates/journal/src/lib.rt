@@ -1,0 +1,240 @@
+// A plain journal: accepted entries in arrival order on a lent slice of sectors, read through for each question.
+ghost use mathlib.Core.Path.{_≡_};
+ghost use Prim.Native.Nat.{_+_, _-_, _*_, _≤_, _<_};
+ghost use lib.ListN.{length};
+ghost use Rattle.rules.specs.Journal.{journal, journalPlan, journalPost, journalStrike, journalLook, journalNext};
+ghost use Rattle.rules.specs.Write.{planAnswer, planCard};
+ghost use Rattle.laws.proofs.Entries.{Asks};
+ghost use Rattle.scan.specs.Scan.{sectors, allBlank};
+ghost use Rattle.scan.specs.Next.{later};
+ghost use Rattle.journal.specs.Passes.{pass, readScan, readingOf, takes, nextScan, nextTold};
+
+mod picks;
+
+use rules::Answer;
+use rules::Entry;
+use rules::Sector;
+use scan::Found;
+
+// What one pass over a journal gives: its written sectors, the last stamp, and the last copy of the bib asked for.
+pub struct Pass {
+    pub used: usize,
+    pub last: u32,
+    pub copy: Found,
+}
+
+pub enum Reading {
+    Broken,
+    Sound(Pass),
+}
+
+fn sound(used: usize, last: u32, copy: Found) -> Reading
+    ensures { λ r. ⌜ r ≡ Reading.Sound (pass used last copy) ⌝ }
+{
+    let pass = Pass { used, last, copy };
+    Reading::Sound(pass)
+}
+
+// Whether all sectors behind sector i are blank: they are not decoded, their bytes are asked at one go.
+fn blank_behind(slice: &[u8], count: usize, i: usize) -> bool
+    requires { ⌜ (length (now slice) ≡ 16 * count) × (i < count) ⌝ }
+    ensures { λ r. ⌜ r ≡ allBlank (sectors 0 (now (slice .entry)) (i + 1) (count - (i + 1))) ⌝ }
+{
+    sector::all_zero(&slice[16 * i + 16..])
+}
+
+// The one pass of post, strike and look. Only the place of the copy is carried from turn to turn.
+fn pass_over(slice: &[u8], count: usize, x: u32, t: u32) -> Reading
+    requires { ⌜ length (now slice) ≡ 16 * count ⌝ }
+    ensures { λ r. ⌜ r ≡ readScan x t (sectors 0 (now (slice .entry)) 0 count) 0 0 Found.Nothing ⌝ }
+{
+    let mut last: u32 = 0;
+    let mut hit: usize = 0;
+    let mut i: usize = 0;
+    let reading = loop {
+        if i == count {
+            break sound(i, last, bucket::entry_at(slice, hit));
+        }
+        let s = sector::at(slice, 0, i);
+        let Sector::Held(e) = s else {
+            let Sector::Blank = s else {
+                break Reading::Broken;
+            };
+            if blank_behind(slice, count, i) {
+                break sound(i, last, bucket::entry_at(slice, hit));
+            }
+            break Reading::Broken;
+        };
+        if picks::follows(last, e) {
+            i += 1;
+            hit = bucket::picks::chosen(bucket::picks::is_copy(x, t, e), i, hit);
+            last = e.stamp;
+        } else {
+            break Reading::Broken;
+        }
+    };
+    reading
+}
+
+// What a slice says as a journal, of the bib x as of t.
+fn read(slice: &[u8], x: u32, t: u32) -> Reading
+    ensures { λ r. ⌜ r ≡ readingOf x t (journal (now (slice .entry))) ⌝ }
+{
+    let len = slice.len();
+    if len % 16 != 0 {
+        return Reading::Broken;
+    }
+    pass_over(slice, len / 16, x, t)
+}
+
+// An entry on a journal: refused, or written to the first blank. All that can refuse it is known before.
+fn enter(slice: &mut [u8], e: Entry) -> Answer
+    requires { ⌜ Asks e ⌝ }
+    ensures { λ r. ⌜ r ≡ planAnswer (journalPlan (now (slice .entry)) e) ⌝ }
+    ensures { λ _. ⌜ now (slice .exit) ≡ planCard (now (slice .entry)) (journalPlan (now (slice .entry)) e) ⌝ }
+{
+    let reading = read(slice, e.key, 4294967295);
+    let Reading::Sound(pass) = reading else {
+        return walk::refusal(1);
+    };
+    let code = picks::objection(e, pass, slice.len() / 16);
+    if code != 0 {
+        return walk::refusal(code);
+    }
+    writer::write_entry(slice, pass.used, e);
+    walk::refusal(0)
+}
+
+// A new time or a correction.
+pub fn post(slice: &mut [u8], bib: u32, at: u32, time: u32) -> Answer
+    ensures { λ r. ⌜ r ≡ planAnswer (journalPost (now (slice .entry)) bib at time) ⌝ }
+    ensures { λ _. ⌜ now (slice .exit) ≡ planCard (now (slice .entry)) (journalPost (now (slice .entry)) bib at time) ⌝ }
+{
+    let e = Entry {
+        kind: 1,
+        key: bib,
+        stamp: at,
+        value: time,
+    };
+    enter(slice, e)
+}
+
+// The bib's time stands no more.
+pub fn strike(slice: &mut [u8], bib: u32, at: u32) -> Answer
+    ensures { λ r. ⌜ r ≡ planAnswer (journalStrike (now (slice .entry)) bib at) ⌝ }
+    ensures { λ _. ⌜ now (slice .exit) ≡ planCard (now (slice .entry)) (journalStrike (now (slice .entry)) bib at) ⌝ }
+{
+    let e = Entry {
+        kind: 2,
+        key: bib,
+        stamp: at,
+        value: 0,
+    };
+    enter(slice, e)
+}
+
+// What stands for the bib as of `at`.
+pub fn look(slice: &[u8], bib: u32, at: u32) -> Answer
+    ensures { λ r. ⌜ r ≡ journalLook (now (slice .entry)) bib at ⌝ }
+{
+    let reading = read(slice, bib, at);
+    let Reading::Sound(pass) = reading else {
+        return walk::refusal(1);
+    };
+    if bib == 0 {
+        return walk::refusal(2);
+    }
+    let copy = pass.copy;
+    walk::tell(bib, 0, copy)
+}
+
+// Whether a copy of x stamped t or earlier lies in the run from sector `from` on.
+fn again(slice: &[u8], count: usize, from: usize, x: u32, t: u32) -> bool
+    requires { ⌜ (length (now slice) ≡ 16 * count) × (from ≤ count) ⌝ }
+    ensures { λ r. ⌜ r ≡ later x t (sectors 0 (now (slice .entry)) from (count - from)) ⌝ }
+{
+    let mut i = from;
+    let copied = loop {
+        if i == count {
+            break false;
+        }
+        let s = sector::at(slice, 0, i);
+        let Sector::Held(e) = s else {
+            break false;
+        };
+        if bucket::picks::is_copy(x, t, e) {
+            break true;
+        }
+        i += 1;
+    };
+    copied
+}
+
+// Whether e, with the sectors from `from` on behind it, is a lower standing bib than the lowest so far. The run behind it is
+// asked for a later copy only if nothing else speaks against e.
+fn takes(slice: &[u8], count: usize, from: usize, k: u32, t: u32, low: u32, e: Entry) -> bool
+    requires { ⌜ (length (now slice) ≡ 16 * count) × (from ≤ count) ⌝ }
+    ensures { λ r. ⌜ r ≡ takes k t low (later (e .key) t (sectors 0 (now (slice .entry)) from (count - from))) e ⌝ }
+{
+    if picks::wanted(k, t, low, e) {
+        return !again(slice, count, from, e.key, t);
+    }
+    false
+}
+
+// The smallest standing bib above k, by one pass that judges the journal too: the place of the best so far and its bib are kept.
+fn find_next(slice: &[u8], count: usize, k: u32, t: u32) -> Found
+    requires { ⌜ length (now slice) ≡ 16 * count ⌝ }
+    ensures { λ r. ⌜ r ≡ nextScan k t (sectors 0 (now (slice .entry)) 0 count) 0 Found.Nothing ⌝ }
+{
+    let mut last: u32 = 0;
+    let mut best: usize = 0;
+    let mut low: u32 = 4294967295;
+    let mut i: usize = 0;
+    let found = loop {
+        if i == count {
+            break bucket::entry_at(slice, best);
+        }
+        let s = sector::at(slice, 0, i);
+        let Sector::Held(e) = s else {
+            let Sector::Blank = s else {
+                break Found::Damage;
+            };
+            if blank_behind(slice, count, i) {
+                break bucket::entry_at(slice, best);
+            }
+            break Found::Damage;
+        };
+        if picks::follows(last, e) {
+            i += 1;
+            let lower = takes(slice, count, i, k, t, low, e);
+            best = bucket::picks::chosen(lower, i, best);
+            low = picks::lowest(lower, e.key, low);
+            last = e.stamp;
+        } else {
+            break Found::Damage;
+        }
+    };
+    found
+}
+
+fn told(found: Found) -> Answer
+    ensures { λ r. ⌜ r ≡ nextTold found ⌝ }
+{
+    match found {
+        Found::Damage => walk::refusal(1),
+        Found::Nothing => next::at_end(),
+        Found::Hit(e) => next::given(e),
+    }
+}
+
+// The next standing bib above `bib` as of `at`, or the end.
+pub fn next(slice: &[u8], bib: u32, at: u32) -> Answer
+    ensures { λ r. ⌜ r ≡ journalNext (now (slice .entry)) bib at ⌝ }
+{
+    let len = slice.len();
+    if len % 16 != 0 {
+        return walk::refusal(1);
+    }
+    told(find_next(slice, len / 16, bib, at))
+}
