@@ -1,4 +1,4 @@
-// The card for C and Rust: the six calls, the batch, the season card, the scroll's records and the card's state, exported. Each takes every input, and its contract is the rule.
+// The card for C and Rust: the six calls, the batch, the season card, the scroll's records and the card's state, and the four calls of a journal, exported. Each takes every input, and its contract is the rule.
 use rules::Answer;
 use rules::Digits;
 use rules::State;
@@ -14,6 +14,7 @@ ghost use Rattle.rules.specs.Batch.{batch};
 ghost use Rattle.rules.specs.Format.{format};
 ghost use Rattle.rules.specs.Write.{planAnswer, planCard, post, strike};
 ghost use Rattle.rules.specs.Season.{season};
+ghost use Rattle.rules.specs.Journal.{journalPost, journalStrike, journalLook, journalNext};
 ghost use Rattle.writer.specs.Rows.{puts};
 ghost use Rattle.scroll.specs.Records.{recordsOf, tallyOf};
 
@@ -106,4 +107,34 @@ pub extern "C" fn card_digits(time: u32, field: u32) -> Digits
     ensures { λ r. ⌜ r ≡ panel time field ⌝ }
 {
     panel::digits(time, field)
+}
+
+#[no_mangle]
+pub extern "C" fn journal_post(journal: &mut [u8], bib: u32, at: u32, time: u32) -> Answer
+    ensures { λ r. ⌜ r ≡ planAnswer (journalPost (now (journal .entry)) bib at time) ⌝ }
+    ensures { λ _. ⌜ now (journal .exit) ≡ planCard (now (journal .entry)) (journalPost (now (journal .entry)) bib at time) ⌝ }
+{
+    journal::post(journal, bib, at, time)
+}
+
+#[no_mangle]
+pub extern "C" fn journal_strike(journal: &mut [u8], bib: u32, at: u32) -> Answer
+    ensures { λ r. ⌜ r ≡ planAnswer (journalStrike (now (journal .entry)) bib at) ⌝ }
+    ensures { λ _. ⌜ now (journal .exit) ≡ planCard (now (journal .entry)) (journalStrike (now (journal .entry)) bib at) ⌝ }
+{
+    journal::strike(journal, bib, at)
+}
+
+#[no_mangle]
+pub extern "C" fn journal_look(journal: &[u8], bib: u32, at: u32) -> Answer
+    ensures { λ r. ⌜ r ≡ journalLook (now (journal .entry)) bib at ⌝ }
+{
+    journal::look(journal, bib, at)
+}
+
+#[no_mangle]
+pub extern "C" fn journal_next(journal: &[u8], bib: u32, at: u32) -> Answer
+    ensures { λ r. ⌜ r ≡ journalNext (now (journal .entry)) bib at ⌝ }
+{
+    journal::next(journal, bib, at)
 }
