@@ -17,11 +17,10 @@ use Rattle.rules.specs.Sector.{put, encode, isPost}
 use Rattle.rules.specs.Walk.{left, copyOf, standing}
 use Rattle.rules.specs.Write.{Plan, refuse, accept, refuseIf, latest}
 use Rattle.laws.proofs.Tools.{bool-cases}
-use Rattle.laws.proofs.Journals.{InOrder, journal-order, journal-room}
+use Rattle.laws.proofs.Journals.{journal-order, journal-room}
 use Rattle.scan.specs.Look.{told}
 use Rattle.scan.proofs.Picks.{hit}
 use Rattle.journal.specs.declared.Pass.{Pass}
-use Rattle.journal.specs.declared.Reading.{Reading}
 use Rattle.journal.specs.declared.Reading.the-variants.{Broken, Sound}
 use Rattle.journal.specs.Passes.{passOf, readingOf, postFound, objection}
 
@@ -35,10 +34,6 @@ pub sound-some : (x t : ℕ) (o : Option (List Entry)) (p : Pass) → readingOf 
 unfolding readingOf
 sound-some x t none p q = let z : _≡_ {A = ℕ} 0 1 = cc in absurd (omega arith)
 sound-some x t (some es) p q = (es, refl, cc)
-
-pub not-journal : (slice : List ℕ) (e : Entry) → journal slice ≡ none → journalPlan slice e ≡ refuse 1
-unfolding journalPlan journalFor
-not-journal slice e q = rw q
 
 -- a number refuses, 0 goes on
 abbrev coded : ℕ → Plan → Plan

@@ -3,32 +3,28 @@ use mathlib.Core.Path.{_≡_, refl, ap, sym, _∙_, subst}
 use mathlib.Core.Logic.{⊎-elim}
 use mathlib.Core.Bool.{Bool, true, false}
 use mathlib.Core.Option.{Option, none, some}
-use Prim.Native.Nat.{ℕ, zero, suc, _+_, _*_, _/_, _%_}
+use Prim.Native.Nat.{ℕ, suc, _+_, _*_, _/_, _%_}
 use native.Mathlib.Omega.{arith}
 use mathlib.Core.List.{List, [], _∷_}
-use lib.Dec.{ltb, eqb}
+use lib.Dec.{ltb}
 use lib.ListN.{length}
 use borrow.Author.Tests.{eq-eqb, ne-eqb}
 use Rattle.rules.specs.declared.Entry.{Entry}
 use Rattle.rules.specs.declared.Sector.{Sector}
 use Rattle.rules.specs.declared.Sector.the-variants.{Blank, Held, Damaged}
-use Rattle.rules.specs.Bucket.{onto, run}
+use Rattle.rules.specs.Bucket.{onto}
 use Rattle.rules.specs.Journal.{rising, soundJournal, journal, stampIn, nextOf, journalNextIn, journalNext}
 use Rattle.rules.specs.Next.{standingAbove}
 use Rattle.rules.specs.Plain.{if, _&_, andThen, lastOf}
 use Rattle.rules.specs.Sector.{isData}
-use Rattle.rules.specs.Walk.{left, copyOf}
+use Rattle.rules.specs.Walk.{left}
 use Rattle.laws.proofs.Tools.{none-some, bool-cases, true-false, false-true, and-true, true-and}
 use Rattle.scan.specs.declared.Found.{Found}
-use Rattle.scan.specs.declared.Found.the-variants.{Damage, Nothing, Hit}
-use Rattle.scan.specs.Scan.{sectors, allBlank, pick}
+use Rattle.scan.specs.declared.Found.the-variants.{Nothing}
+use Rattle.scan.specs.Scan.{sectors, pick}
 use Rattle.scan.proofs.Runs.{runOf, run-sectors, blank-run, fold}
 use Rattle.scan.proofs.Picks.{hit, fold-data}
-use Rattle.scan.specs.Next.{standIn}
 use Rattle.scan.proofs.Mins.{blank-nil, held-cons, damaged-no, stand-run, stand-above}
-use Rattle.journal.specs.declared.Pass.{Pass}
-use Rattle.journal.specs.declared.Reading.{Reading}
-use Rattle.journal.specs.declared.Reading.the-variants.{Broken, Sound}
 use Rattle.journal.specs.Passes.{follows, risen, pass, passed, readScan, passOf, readingOf, nextScan, nextTold}
 
 -- the stamp of the last entry, or s where there is none

@@ -18,12 +18,11 @@ use Rattle.rules.specs.Sector.{sectorAt, fields, decode, isPost}
 use Rattle.rules.proofs.Sector.{the-type}
 use Rattle.laws.proofs.Bytes.{held-inv}
 use Rattle.scan.specs.declared.Found.{Found}
-use Rattle.scan.specs.declared.Found.the-variants.{Damage, Nothing, Hit}
+use Rattle.scan.specs.declared.Found.the-variants.{Damage, Hit}
 use Rattle.scan.specs.Scan.{allBlank, pick}
 use Rattle.scan.specs.Next.{under, above, stands, unless, pickNext, later, standIn}
 use Rattle.bucket.specs.Places.{foundAt, isCopy}
 use Rattle.bucket.proofs.Places.{pick-copy, choice}
-use Rattle.journal.specs.declared.Reading.{Reading}
 use Rattle.journal.specs.declared.Reading.the-variants.{Broken, Sound}
 use Rattle.journal.specs.Passes.{follows, risen, pass, passed, readScan, wanted, takes, nextScan}
 

@@ -3,19 +3,19 @@ use mathlib.Core.Path.{_≡_, refl, ap, ap₂, sym, _∙_}
 use mathlib.Core.Logic.{_⊎_, inl, inr, ⊎-elim}
 use mathlib.Core.Option.{Option, none, some}
 use mathlib.Core.List.{List, [], _∷_}
-use Prim.Native.Nat.{ℕ, suc, _+_, _-_, _/_, _%_, _≤_, _<_}
+use Prim.Native.Nat.{ℕ, suc, _+_, _-_, _/_, _%_, _<_}
 use mathlib.Core.Bool.{Bool, true, false}
 use native.Mathlib.Omega.{arith}
 use lib.ListN.{length}
 use lib.Dec.{eqb}
 use borrow.Author.Tests.{eq-eqb, ne-eqb, eqb-true}
 use Rattle.rules.specs.declared.Entry.{Entry}
-use Rattle.rules.specs.Bucket.{run, blanks}
-use Rattle.rules.specs.Journal.{rising, soundJournal, journal, journalBlanks, journalOn}
+use Rattle.rules.specs.Bucket.{run}
+use Rattle.rules.specs.Journal.{rising, soundJournal, journal, journalBlanks, journalOn, journalFor, journalPlan}
 use Rattle.rules.specs.Plain.{if, andThen}
 use Rattle.rules.specs.Rewrite.{fill}
 use Rattle.rules.specs.Sector.{put, encode}
-use Rattle.rules.specs.Write.{Plan, refuse, accept, refuseIf}
+use Rattle.rules.specs.Write.{refuse, accept, refuseIf}
 use Rattle.laws.proofs.Tools.{eq-or-ne, guard-true, then-inv, none-some}
 use Rattle.laws.proofs.Blanks.{upFrom, blanks-from}
 use Rattle.laws.proofs.Buckets.{run-length}
@@ -39,6 +39,11 @@ journal-order slice es q =
 pub order-journal : (slice : List ℕ) (es : List Entry) → InOrder slice es → journal slice ≡ some es
 unfolding journal soundJournal
 order-journal slice es w = rw (eq-eqb (length slice % 16) 0 (w .0), w .1, w .2)
+
+-- any other slice is refused
+pub not-journal : (slice : List ℕ) (e : Entry) → journal slice ≡ none → journalPlan slice e ≡ refuse 1
+unfolding journalPlan journalFor
+not-journal slice e q = rw q
 
 -- the blanks are those behind its entries
 on-none : (slice : List ℕ) (e : Entry) → journalOn slice e [] ≡ refuse 6

@@ -32,7 +32,7 @@ pub not-false : (a : Bool) → not a ≡ false → a ≡ true
 not-false true q = refl
 not-false false q = cc
 
-from-one : (x : ℕ) → (x ≡ 0 → ⊥) → 1 ≤ x
+pub from-one : (x : ℕ) → (x ≡ 0 → ⊥) → 1 ≤ x
 from-one zero n = absurd (n refl)
 from-one (suc x) n = omega arith
 

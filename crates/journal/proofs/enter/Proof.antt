@@ -7,11 +7,11 @@ use native.Mathlib.Omega.{arith}
 use Rattle.rules.specs.declared.Entry.{Entry}
 use Rattle.rules.specs.Journal.{journal}
 use Rattle.rules.specs.Write.{latest}
-use Rattle.laws.proofs.Codec.{Fits}
 use Rattle.laws.proofs.Entries.{Asks}
 use Rattle.laws.proofs.Follows.{refuses, accepts}
+use Rattle.laws.proofs.Journals.{not-journal}
 use Rattle.journal.specs.Passes.{passOf}
-use Rattle.journal.proofs.Plans.{broken-none, sound-some, not-journal, objected, written, room-for}
+use Rattle.journal.proofs.Plans.{broken-none, sound-some, objected, written, room-for}
 use Rattle.journal.proofs.enter.Statement.{statement}
 use Rattle.journal.proofs.enter.Tie as tie
 

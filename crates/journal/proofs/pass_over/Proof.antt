@@ -1,7 +1,7 @@
 -- `journal::pass_over`: what is left from sector i on, with the stamp and the place kept, gives what the whole pass gives.
 use borrow.Author.Needs.{needs}
 use Prim.Native.Nat.{_-_, _+_, _≤_}
-use mathlib.Core.Path.{_≡_, refl, ap, sym, _∙_}
+use mathlib.Core.Path.{_≡_, ap, sym, _∙_}
 use mathlib.Core.Bool.{false}
 use mathlib.Core.List.{_∷_}
 use native.Mathlib.Nat.{sub-zero}

@@ -1,6 +1,5 @@
 -- `journal::told` meets its contract.
 use borrow.Author.Needs.{needs}
-use mathlib.Core.Path.{_∙_}
 use Rattle.rules.specs.Journal.{nextOf}
 use Rattle.journal.specs.Passes.{nextTold}
 use Rattle.journal.proofs.told.Statement.{statement}
