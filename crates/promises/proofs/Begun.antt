@@ -33,7 +33,7 @@ pub record Starts (h : Head) (begin : ℕ) (rs : List Entry) (card : List ℕ) :
 formatted-head : (h : Head) (card : List ℕ) (f : Formatted h card) → meant (f .1) (f .2) (f .3) (f .4) ≡ h
 formatted-head h card f = some-inj (sym (format-keeps (f .0) (f .1) (f .2) (f .3) (f .4) card (formatted-plan h card f) .state .head) ∙ f .7)
 
-formatted-starts : (h : Head) (card : List ℕ) → Formatted h card → Starts h 0 [] card
+pub formatted-starts : (h : Head) (card : List ℕ) → Formatted h card → Starts h 0 [] card
 unfolding copyOf only lastOf standing
 formatted-starts h card f =
     record {

@@ -9,6 +9,8 @@ use Rattle.promises.proofs.Scrolled.{records-are-settled, scroll-is-set
 use Rattle.promises.proofs.Stated.{state-tells-the-truth, state-tells-the-next, state-is-settled}
 use Rattle.promises.proofs.Batches.{batch-is-one-by-one, batch-cut-in-two, refused-does-not-stop, batch-is-settled}
 use Rattle.promises.proofs.Copied.{seen-through, copies-of-copies, copies-are-refused-alike, twice-is-once}
+use Rattle.promises.proofs.Journals.{journal-holds-the-accepted, journal-tells-the-truth, journal-takes-until-full, six-means-full, journal-overwrites-nothing, journal-is-settled, journal-reads-nothing}
+use Rattle.promises.proofs.Agreed.{journal-answers-alike}
 
 pub all-kept : Promises
 all-kept =
@@ -42,4 +44,12 @@ all-kept =
       copies-are-refused-alike = copies-are-refused-alike;
       twice-is-once = twice-is-once;
       season-is-settled = season-is-settled;
+      journal-answers-alike = journal-answers-alike;
+      journal-holds-the-accepted = journal-holds-the-accepted;
+      journal-tells-the-truth = journal-tells-the-truth;
+      journal-takes-until-full = journal-takes-until-full;
+      six-means-full = six-means-full;
+      journal-overwrites-nothing = journal-overwrites-nothing;
+      journal-is-settled = journal-is-settled;
+      journal-reads-nothing = journal-reads-nothing;
     }

@@ -11,4 +11,6 @@ pub mod Scrolled
 pub mod Stated
 pub mod Batches
 pub mod Copied
+pub mod Journals
+pub mod Agreed
 pub mod Kept

@@ -84,10 +84,10 @@ puts-written h Q card (i ∷ is) new size p =
     )
 
 -- what is promised of the card that a call leaves follows from its writes
-abbrev Left : List ℕ → List ℕ → Type 0
+abbrev pub Left : List ℕ → List ℕ → Type 0
 Left card new = (is : List ℕ) × WrittenAt card is new
 
-left-promise : (card new : List ℕ) → Left card new → WrittenOnce card new
+pub left-promise : (card new : List ℕ) → Left card new → WrittenOnce card new
 left-promise card new l =
     (written-length card (l .0) new (l .1), written-stays card (l .0) new (l .1), (l .0, written-different card (l .0) new (l .1), l .1))
 

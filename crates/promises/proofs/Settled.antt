@@ -28,22 +28,22 @@ pub panel-is-settled : PanelIsSettled
 panel-is-settled time field one two a b = a ∙ sym b
 
 -- an answer that is 0, or a refusal with zeros beside its number
-abbrev Bare : Answer → Type 0
+abbrev pub Bare : Answer → Type 0
 Bare a = (a .code ≡ 0 → ⊥) → a ≡ refused (a .code)
 
-bare-zero : (a : Answer) → a .code ≡ 0 → Bare a
+pub bare-zero : (a : Answer) → a .code ≡ 0 → Bare a
 bare-zero a z n = absurd (n z)
 
-bare-refused : (c : ℕ) → Bare (refused c)
+pub bare-refused : (c : ℕ) → Bare (refused c)
 unfolding refused
 bare-refused c n = refl
 
-plan-bare : (p : Plan) → Bare (planAnswer p)
+pub plan-bare : (p : Plan) → Bare (planAnswer p)
 unfolding planAnswer
 plan-bare (refuse c) = bare-refused c
 plan-bare (accept new) = bare-refused 0
 
-sheet-bare : (bib reads : ℕ) (o : Option Entry) → Bare (sheet bib reads o)
+pub sheet-bare : (bib reads : ℕ) (o : Option Entry) → Bare (sheet bib reads o)
 unfolding sheet
 sheet-bare bib reads none = bare-zero (sheet bib reads none) refl
 sheet-bare bib reads (some e) = bare-zero (sheet bib reads (some e)) refl
@@ -53,7 +53,7 @@ unfolding lookOn
 lookOn-bare bib t none = bare-refused 4
 lookOn-bare bib t (some p) = sheet-bare bib (length p) (standsOn t bib p)
 
-bare-if : (b : Bool) (x y : Answer) → Bare x → Bare y → Bare (if b x y)
+pub bare-if : (b : Bool) (x y : Answer) → Bare x → Bare y → Bare (if b x y)
 bare-if true x y p q = p
 bare-if false x y p q = q
 
@@ -63,7 +63,7 @@ look-bare bib t card none = bare-refused 1
 look-bare bib t card (some h) =
     bare-if (eqb bib 0) (refused 2) _ (bare-refused 2) (bare-if (ltb t (beginning card)) (refused 13) _ (bare-refused 13) (lookOn-bare bib t (walk h card t bib)))
 
-ended-bare : Bare ended
+pub ended-bare : Bare ended
 unfolding ended
 ended-bare = bare-zero ended refl
 

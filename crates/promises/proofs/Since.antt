@@ -106,7 +106,7 @@ step-since c es d (inl a) = subst (λ z. Since c z d) (sym (a .0)) (sym (a .1))
 step-since c es d (inr a) = subst (λ z. Since c z d) (sym (a .3)) (d, a .1, a .2, refl)
 
 -- one way after the other
-since-more : (c : List ℕ) (es : List Entry) (d : List ℕ) (fs : List Entry) (b : List ℕ) → Since c es d → Since d fs b → Since c (es ++ fs) b
+pub since-more : (c : List ℕ) (es : List Entry) (d : List ℕ) (fs : List Entry) (b : List ℕ) → Since c es d → Since d fs b → Since c (es ++ fs) b
 since-more c [] d fs b p q = subst (λ z. Since z fs b) (sym p) q
 since-more c (e ∷ es) d fs b p q = (p .0, p .1, p .2, since-more (p .0) es d fs b (p .3) q)
 

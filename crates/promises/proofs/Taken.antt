@@ -12,7 +12,7 @@ use Rattle.rules.specs.declared.Head.{Head}
 use Rattle.rules.specs.declared.Answer.{Answer}
 use Rattle.rules.specs.Rewrite.{Rise}
 use Rattle.rules.specs.Walk.{Visit, walk}
-use Rattle.rules.specs.Write.{topUsed, Plan, refuseIf, stampOn, planOn, planAt, planFor, logFull, checked, refuse, rooted, climb, finish, plan, planAnswer, accept, post, strike, latest}
+use Rattle.rules.specs.Write.{topUsed, Plan, refuseIf, planOn, planAt, planFor, logFull, checked, refuse, rooted, climb, finish, plan, planAnswer, accept, post, strike, latest}
 use Rattle.rules.specs.Sector.{isPost, postEntry, strikeEntry, encode, put, rootEntry}
 use Rattle.rules.specs.Plain.{isNone, _&_}
 use Rattle.rules.specs.Answers.{refused}
@@ -36,6 +36,7 @@ use Rattle.promises.proofs.Begun.{begun-starts}
 use Rattle.promises.proofs.Truth.{calls-keep, calls-plain}
 use Rattle.promises.proofs.Since.{after}
 use lib.ListN.{length}
+use lib.Dec.{eqb, leb}
 
 -- more fresh buckets than there are numbers up to n: refused
 checked-refuse : (h : Head) (full : Bool) (r : Rise) → h .n + 1 < r .fresh → checked h full r ≡ refuse 6
@@ -57,7 +58,7 @@ unfolding needed remaining freshAfter
 too-few h card e p gt = let le = used-within h card (h .n) in omega arith
 
 -- of a plan: it is accepted where the buckets needed remain, and else refused with 6
-abbrev PlanTaken : Head → List ℕ → Entry → Plan → Type 0
+abbrev pub PlanTaken : Head → List ℕ → Entry → Plan → Type 0
 PlanTaken h card e plan =
     (p : List Visit) × (walk h card latest (e .key) ≡ some p)
     × (((needed h card e p ≤ remaining h card) × ((new : List ℕ) × (plan ≡ accept new)))
@@ -70,32 +71,37 @@ unfolding planAnswer refused
 plan-answers h card e k plan is (p, w, inl t) = (p, w, inl (t .0, ap (λ (a : Answer). a .code) (is ∙ ap planAnswer (t .1 .1))))
 plan-answers h card e k plan is (p, w, inr t) = (p, w, inr (t .0, ap (λ (a : Answer). a .code) (is ∙ ap planAnswer (t .1))))
 
-module _ (h : Head) (card : List ℕ) (g : ℕ → ℕ → Option Entry) (begin s : ℕ) (ke : Keeps h card g begin s) (e : Entry) (asks : Asks e) (key : 1 ≤ e .key) (above : s < e .stamp) where
-  abbrev p : List Visit
+-- a write on a card of ours is refused with 2, 3 or 5, or goes on along the path of its walk
+module _ (h : Head) (card : List ℕ) (g : ℕ → ℕ → Option Entry) (begin s : ℕ) (ke : Keeps h card g begin s) (e : Entry) (asks : Asks e) where
+  abbrev pub p : List Visit
   p = write-walk h card g begin s ke e asks .0
 
-  on-taken : PlanTaken h card e (planOn h card e p)
-  on-taken = (
-    p,
-    write-walk h card g begin s ke e asks .1,
-    ⊎-elim
-        (λ (le : freshAfter h card e p ≤ h .n + 1). inl (enough h card e p le, keeps-write h card g begin s ke e asks key above .1 le))
-        (λ (gt : h .n + 1 < freshAfter h card e p). inr (too-few h card e p gt, on-refuse h card e p gt))
-        (le-or-lt (freshAfter h card e p) (h .n + 1)),
-  )
-
-  -- of the refusals 1 to 5 only 5 is left, for a strike where nothing stands
-  plan-is : plan card e ≡ refuseIf (not (isPost e) & isNone (g latest (e .key))) 5 (planOn h card e p)
-  unfolding plan planFor planAt refuseIf
-  plan-is =
+  pub plan-ruled : plan card e ≡ refuseIf (eqb (e .key) 0) 2 (refuseIf (leb (e .stamp) s) 3 (refuseIf (not (isPost e) & isNone (g latest (e .key))) 5 (planOn h card e p)))
+  unfolding plan planFor planAt
+  plan-ruled =
       let sm = ke .small in
       let si = ke .since in
-      let top = ke .top in
       let a = ke .answers latest (e .key) (omega arith) (asks-small e asks) in
       let there = ends-here (g latest) latest (e .key) 0 4294967296 (a .0) (a .2) in
       let same : a .0 ≡ p = some-inj (sym (a .1) ∙ write-walk h card g begin s ke e asks .1) in
-      rw (ke .state .head, ne-eqb (e .key) 0 (λ z. omega arith), lt-leb (e .stamp) (stampOn h card) (omega arith), a .1, there)
-      (ap (λ q. refuseIf (not (isPost e) & isNone (g latest (e .key))) 5 (planOn h card e q)) same)
+      rw (ke .state .head, ke .top, a .1, there)
+      (ap (λ q. refuseIf (eqb (e .key) 0) 2 (refuseIf (leb (e .stamp) s) 3 (refuseIf (not (isPost e) & isNone (g latest (e .key))) 5 (planOn h card e q)))) same)
+
+  module _ (key : 1 ≤ e .key) (above : s < e .stamp) where
+    pub on-taken : PlanTaken h card e (planOn h card e p)
+    on-taken = (
+      p,
+      write-walk h card g begin s ke e asks .1,
+      ⊎-elim
+          (λ (le : freshAfter h card e p ≤ h .n + 1). inl (enough h card e p le, keeps-write h card g begin s ke e asks key above .1 le))
+          (λ (gt : h .n + 1 < freshAfter h card e p). inr (too-few h card e p gt, on-refuse h card e p gt))
+          (le-or-lt (freshAfter h card e p) (h .n + 1)),
+    )
+
+    -- of the refusals 1 to 5 only 5 is left, for a strike where nothing stands
+    plan-is : plan card e ≡ refuseIf (not (isPost e) & isNone (g latest (e .key))) 5 (planOn h card e p)
+    unfolding refuseIf
+    plan-is = plan-ruled ∙ rw (ne-eqb (e .key) 0 (λ z. omega arith), lt-leb (e .stamp) s above)
 
 post-plan : (b : Bool) (bib at time : ℕ) (p : Plan) → refuseIf (not (isPost (postEntry bib at time)) & b) 5 p ≡ p
 unfolding refuseIf isPost

@@ -40,7 +40,7 @@ calls-keep h begin rs card st calls s =
     let ke = st .keeps in
     since-keeps h card (λ t. said rs) begin begin ke (accepted card calls) (cardAfter card calls) (calls-since h card (λ t. said rs) begin begin ke calls s)
 
-sheet-reads : (bib reads : ℕ) (o : Option Entry) → sheet bib reads o .reads ≡ reads
+pub sheet-reads : (bib reads : ℕ) (o : Option Entry) → sheet bib reads o .reads ≡ reads
 unfolding sheet
 sheet-reads bib reads none = refl
 sheet-reads bib reads (some e) = refl
@@ -105,7 +105,7 @@ look-tells-the-truth h begin rs card b = look-truth h begin rs card (begun-start
 pub reads-count-the-path : ReadsCountThePath
 reads-count-the-path h begin rs card b = reads-truth h begin rs card (begun-starts h begin rs card b)
 
-given-smallest : (g : ℕ → Option Entry) (k : ℕ) (r : Option Entry) → Found g k 0 4294967296 r → Smallest g k (given r)
+pub given-smallest : (g : ℕ → Option Entry) (k : ℕ) (r : Option Entry) → Found g k 0 4294967296 r → Smallest g k (given r)
 given-smallest g k r (inl f) = inl (λ b kb bh. f .1 b (omega arith) bh kb, ap given (f .0))
 given-smallest g k r (inr f) = inr (f .0 .key, f .0, f .2, f .4, λ b kb be. f .5 b (omega arith) kb be, ap given (f .1))
 

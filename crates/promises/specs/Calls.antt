@@ -1,12 +1,13 @@
--- What calls and batches, one after the other, leave on a card, and the entries accepted on the way.
+-- What calls and batches, one after the other, leave on a card, and the entries accepted on the way; and what calls leave on a journal.
 use mathlib.Core.Path.{_≡_}
 use mathlib.Core.Logic.{_⊎_}
-use Prim.Native.Nat.{ℕ, zero, suc, _+_, _-_, _≤_, _<_}
+use Prim.Native.Nat.{ℕ, zero, suc, _+_, _*_, _-_, _≤_, _<_}
 use mathlib.Core.List.{List, [], _∷_, _++_}
 use mathlib.Core.Option.{some}
 use Rattle.rules.specs.declared.Entry.{Entry}
 use Rattle.rules.specs.declared.Head.{Head}
-use lib.ListN.{length, getD}
+use Rattle.rules.specs.declared.Answer.{Answer}
+use lib.ListN.{length, getD, replicate}
 use Rattle.rules.specs.Plain.{if}
 use Rattle.rules.specs.Sector.{encode, fields, postEntry, strikeEntry}
 use Rattle.rules.specs.Layout.{headOf}
@@ -14,7 +15,7 @@ use Rattle.rules.specs.Walk.{Visit}
 use Rattle.rules.specs.Write.{accept, planAnswer, planCard, topUsed, climb, rooted}
 use Rattle.rules.specs.Season.{standingAt, built, season}
 use Rattle.rules.specs.Batch.{request, requestsIn, paired, batch}
-use Rattle.rules.specs.Calls.{Call, formatCall, postCall, strikeCall, lookCall, nextCall, called}
+use Rattle.rules.specs.Calls.{Call, formatCall, postCall, strikeCall, lookCall, nextCall, called, Ask, postAsk, strikeAsk, lookAsk, nextAsk, callOf, noted}
 
 -- a call is accepted where its answer is 0
 abbrev pub Accepted : List ℕ → Call → Type 0
@@ -144,3 +145,35 @@ remaining h card = h .n - topUsed h card (h .n)
 -- the buckets that a season of the records rs onto the target needs
 unfoldable pub seasonNeeds : Head → ℕ → List Entry → List ℕ → ℕ
 seasonNeeds h t rs target = built h t rs target .fresh - 1
+
+-- a blank slice of so many sectors, for a journal
+unfoldable pub blankSlice : ℕ → List ℕ
+blankSlice sectors = replicate (16 * sectors) 0
+
+abbrev pub AsksSized : List Ask → Type 0
+AsksSized [] = Unit {0}
+AsksSized (q ∷ qs) = Sized (callOf q) × AsksSized qs
+
+-- the journal after calls of it, and the entries accepted, in the order of their arrival
+unfoldable pub journalAfter : List ℕ → List Ask → List ℕ
+journalAfter slice [] = slice
+journalAfter slice (q ∷ qs) = journalAfter (noted slice q .card) qs
+
+unfoldable pub notedBy : List ℕ → Ask → List Entry
+notedBy slice (postAsk bib at time) = ifZero (noted slice (postAsk bib at time) .answer .code) (postEntry bib at time)
+notedBy slice (strikeAsk bib at) = ifZero (noted slice (strikeAsk bib at) .answer .code) (strikeEntry bib at)
+notedBy slice (lookAsk bib t) = []
+notedBy slice (nextAsk bib t) = []
+
+unfoldable pub acceptedIn : List ℕ → List Ask → List Entry
+acceptedIn slice [] = []
+acceptedIn slice (q ∷ qs) = notedBy slice q ++ acceptedIn (noted slice q .card) qs
+
+-- what a card and what a journal answer to the same calls
+unfoldable pub cardAnswers : List ℕ → List Ask → List Answer
+cardAnswers card [] = []
+cardAnswers card (q ∷ qs) = called card (callOf q) .answer ∷ cardAnswers (called card (callOf q) .card) qs
+
+unfoldable pub journalAnswers : List ℕ → List Ask → List Answer
+journalAnswers slice [] = []
+journalAnswers slice (q ∷ qs) = noted slice q .answer ∷ journalAnswers (noted slice q .card) qs

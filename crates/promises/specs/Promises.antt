@@ -2,7 +2,7 @@
 use mathlib.Core.Path.{_≡_}
 use mathlib.Core.Logic.{_⊎_}
 use mathlib.Core.Bool.{true, false}
-use Prim.Native.Nat.{ℕ, _*_, _/_, _≤_, _<_}
+use Prim.Native.Nat.{ℕ, _+_, _*_, _/_, _≤_, _<_}
 use mathlib.Core.List.{List, [], _∷_, _++_}
 use mathlib.Core.Option.{Option, none, some}
 use lib.ListN.{length, replicate}
@@ -25,13 +25,14 @@ use Rattle.rules.specs.Season.{standingAt, season}
 use Rattle.rules.specs.State.{stateOf, state}
 use Rattle.rules.specs.Panel.{panel}
 use Rattle.rules.specs.Batch.{Batch, batch}
-use Rattle.rules.specs.Calls.{Call, postCall, strikeCall, lookCall, nextCall, Done, called}
+use Rattle.rules.specs.Journal.{journal, journalLook, journalNext}
+use Rattle.rules.specs.Calls.{Call, postCall, strikeCall, lookCall, nextCall, Done, called, Ask, postAsk, strikeAsk, lookAsk, nextAsk, noted}
 use Rattle.writer.specs.Rows.{puts}
 use Rattle.scroll.specs.declared.Tally.{Tally}
 use Rattle.scroll.specs.declared.Scroll.{Scroll}
 use Rattle.scroll.specs.Records.{recordsOf, tallyOf}
 use Rattle.scroll.specs.Scroll.{after, stepOf}
-use Rattle.promises.specs.Calls.{Accepted, Begun, BegunAlike, Sized, OfBytes, Act, AllSized, EachSized, cardBy, cardAfter, accepted, Asks, oneByOne, numbers, Above, Quiet, needed, remaining, seasonNeeds}
+use Rattle.promises.specs.Calls.{Accepted, Formatted, Begun, BegunAlike, Sized, OfBytes, Act, AllSized, EachSized, cardBy, cardAfter, accepted, Asks, oneByOne, numbers, Above, Quiet, needed, remaining, seasonNeeds, blankSlice, AsksSized, journalAfter, acceptedIn, cardAnswers, journalAnswers}
 use Rattle.promises.specs.Reading.{upTo, standsAsOf, lastStamp}
 
 -- 1. From a card's beginning on, a look answers 0, the bib, and the stamp and time of the last entry for it stamped t or earlier if that
@@ -304,6 +305,83 @@ SeasonIsSettled =
     → FitsSeason card t target n m td ti one new → FitsSeason card t target n m td ti two other
     → (one ≡ two) × (new ≡ other) × ((one ≡ 0 → ⊥) → new ≡ target)
 
+-- an answer but for its reads, which are taken as 0
+unfoldable pub readless : Answer → Answer
+readless a = answer (a .code) (a .bib) (a .at) (a .time) 0
+
+-- the answers of a card and of a journal agree, one after the other, until either is 6
+abbrev pub AgreeUntilSix : List Answer → List Answer → Type 0
+AgreeUntilSix [] [] = Unit {0}
+AgreeUntilSix [] (b ∷ bs) = ⊥
+AgreeUntilSix (a ∷ answers) [] = ⊥
+AgreeUntilSix (a ∷ answers) (b ∷ bs) = ((a .code ≡ 6) ⊎ (b .code ≡ 6)) ⊎ ((readless a ≡ b) × AgreeUntilSix answers bs)
+
+-- 15. A journal answers as the card does: any calls, each made on a freshly formatted card and on a blank slice of any whole number of
+-- sectors, are answered alike, reads taken as 0, until either has answered 6.
+abbrev pub JournalAnswersAlike : Type 0
+JournalAnswersAlike =
+    (h : Head) (card : List ℕ) → Formatted h card → (sectors : ℕ) (asks : List Ask) → AsksSized asks
+    → AgreeUntilSix (cardAnswers card asks) (journalAnswers (blankSlice sectors) asks)
+
+-- 16. A journal that only its calls wrote holds the entries that it accepted, in the order of their arrival, and no other.
+abbrev pub JournalHoldsTheAccepted : Type 0
+JournalHoldsTheAccepted =
+    (sectors : ℕ) (asks : List Ask) → AsksSized asks → journal (journalAfter (blankSlice sectors) asks) ≡ some (acceptedIn (blankSlice sectors) asks)
+
+-- Look and next of it are the plain reading of these entries, whatever a card would have answered.
+abbrev pub JournalTellsTheTruth : Type 0
+JournalTellsTheTruth =
+    (sectors : ℕ) (asks : List Ask) → AsksSized asks → (bib t : ℕ)
+    → let slice = journalAfter (blankSlice sectors) asks in
+    let entries = acceptedIn (blankSlice sectors) asks in
+    (1 ≤ bib → journalLook slice bib t ≡ sheet bib 0 (standsAsOf t bib entries))
+    × Smallest (λ b. standsAsOf t b entries) bib (journalNext slice bib t)
+
+-- a sector of the slice is blank; none is
+abbrev pub SomeBlank : List ℕ → Type 0
+SomeBlank slice = (i : ℕ) × (16 * i + 16 ≤ length slice) × (zeros (sectorAt slice i) ≡ true)
+
+abbrev pub NoBlank : List ℕ → Type 0
+NoBlank slice = (i : ℕ) → 16 * i + 16 ≤ length slice → zeros (sectorAt slice i) ≡ false
+
+-- a call of a journal is accepted where a sector is blank, and else refused with 6
+abbrev pub TakenIfBlank : List ℕ → Ask → Type 0
+TakenIfBlank slice q = (SomeBlank slice × (noted slice q .answer .code ≡ 0)) ⊎ (NoBlank slice × (noted slice q .answer .code ≡ 6))
+
+-- 17. On any journal, whoever wrote it, a post with a bib from 1 and a stamp above 0 and every stamp there is accepted exactly where a sector
+-- is blank, and else refused with 6; a strike likewise, where something stands, and where nothing does it is refused with 5.
+abbrev pub JournalTakesUntilFull : Type 0
+JournalTakesUntilFull =
+    (slice : List ℕ) (entries : List Entry) → journal slice ≡ some entries
+    → (bib at time : ℕ) → 1 ≤ bib → 1 ≤ at → Above at entries
+    → TakenIfBlank slice (postAsk bib at time)
+    × (((standsAsOf latest bib entries ≡ none) × (noted slice (strikeAsk bib at) .answer .code ≡ 5))
+    ⊎ ((standsAsOf latest bib entries ≡ none → ⊥) × TakenIfBlank slice (strikeAsk bib at)))
+
+-- And 6 is given only where no sector is blank, on every slice.
+abbrev pub SixMeansFull : Type 0
+SixMeansFull = (slice : List ℕ) (q : Ask) → noted slice q .answer .code ≡ 6 → NoBlank slice
+
+-- 18. Nothing of a journal is overwritten, by any call on any slice.
+abbrev pub JournalOverwritesNothing : Type 0
+JournalOverwritesNothing = (slice : List ℕ) (q : Ask) → WrittenOnce slice (noted slice q .card)
+
+-- an outcome, answer and bytes afterwards, that fits what is said of a call on a slice
+abbrev pub FitsNoted : List ℕ → Ask → Done → Type 0
+FitsNoted slice q done = (done .answer ≡ noted slice q .answer) × (done .card ≡ noted slice q .card)
+
+-- 19. What is said of a journal's call settles its outcome; and refused, it leaves the slice as it was, with zeros beside its number.
+abbrev pub JournalIsSettled : Type 0
+JournalIsSettled =
+    (slice : List ℕ) (q : Ask) (one two : Done) → FitsNoted slice q one → FitsNoted slice q two
+    → (one ≡ two) × ((one .answer .code ≡ 0 → ⊥) → (one .card ≡ slice) × (one .answer ≡ refused (one .answer .code)))
+
+-- Look and next change nothing of it, and no answer has reads.
+abbrev pub JournalReadsNothing : Type 0
+JournalReadsNothing =
+    (slice : List ℕ) → ((bib t : ℕ) → (noted slice (lookAsk bib t) .card ≡ slice) × (noted slice (nextAsk bib t) .card ≡ slice))
+    × ((q : Ask) → noted slice q .answer .reads ≡ 0)
+
 -- All that is promised. `promised` in src/ asks for a term of it, so that a promise without its proof fails the check.
 pub record Promises : Type 0 where
   pub look-tells-the-truth : LookTellsTheTruth
@@ -335,3 +413,11 @@ pub record Promises : Type 0 where
   pub copies-are-refused-alike : CopiesAreRefusedAlike
   pub twice-is-once : TwiceIsOnce
   pub season-is-settled : SeasonIsSettled
+  pub journal-answers-alike : JournalAnswersAlike
+  pub journal-holds-the-accepted : JournalHoldsTheAccepted
+  pub journal-tells-the-truth : JournalTellsTheTruth
+  pub journal-takes-until-full : JournalTakesUntilFull
+  pub six-means-full : SixMeansFull
+  pub journal-overwrites-nothing : JournalOverwritesNothing
+  pub journal-is-settled : JournalIsSettled
+  pub journal-reads-nothing : JournalReadsNothing
