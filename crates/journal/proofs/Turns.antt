@@ -98,6 +98,11 @@ in-order true false false q l taken kept = refl
 in-order false again true q l taken kept = refl
 in-order false again false q l taken kept = refl
 
+-- the run behind an entry is asked last
+pub takes-if : (k t low : ℕ) (again : Bool) (e : Entry) (b r : Bool) → b ≡ wanted k t low e → b ≡ true → r ≡ again → not r ≡ takes k t low again e
+unfolding takes
+takes-if k t low again e b r q yes-wanted is = rw (← q, yes-wanted, is)
+
 module _ (slice : List ℕ) (i best : ℕ) (e : Entry) (held : decode 0 (sectorAt slice i) ≡ Held e) (fits : e .key ≤ 4294967295) (k t : ℕ) (rest : Bool) where
   pub next-place : (low r : ℕ) (b : Bool) → low ≡ lowAt slice best → b ≡ takes k t low rest e → r ≡ if b (i + 1) best
       → pickNext k t rest (foundAt slice best) e ≡ foundAt slice r

@@ -50,7 +50,8 @@ write-entry-requires c κs =
     let o = sound .before .before .before .before .before in
     let a = o .args in
     let held = held-at sound in
-    (room-for (a .slice .now) (a .e) (held .0) (held .1) _ (held .2) _ (asked .objection .ensures) (c .before .if1 .left), o .pre .0 .kind)
+    let room = room-for (a .slice .now) (a .e) (held .0) (held .1) _ (held .2) _ (asked .objection .ensures) (c .before .if1 .left) in
+    (omega (arith, room), o .pre .0 .kind)
 
 returns-3 : tie.Need-returns-3
 returns-3 c =
