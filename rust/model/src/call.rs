@@ -1,6 +1,6 @@
 //! The calls as a table and as values, so that one check runs against any implementation.
 
-use crate::{Answer, Digits, State};
+use crate::{journal, Answer, Digits, State};
 
 /// A season card: the source and its stamp, the target and its geometry.
 pub type Copying = fn(&[u8], u32, &mut [u8], u32, u32, u32, u32) -> u32;
@@ -32,7 +32,20 @@ pub const MODEL: Calls = Calls {
     digits: crate::digits,
 };
 
-/// A call on a card.
+/// One implementation's calls on a journal.
+#[derive(Clone, Copy)]
+pub struct JournalCalls {
+    pub post: fn(&mut [u8], u32, u32, u32) -> Answer,
+    pub strike: fn(&mut [u8], u32, u32) -> Answer,
+    pub look: fn(&[u8], u32, u32) -> Answer,
+    pub next: fn(&[u8], u32, u32) -> Answer,
+}
+
+/// This package's own.
+pub const MODEL_JOURNAL: JournalCalls =
+    JournalCalls { post: journal::post, strike: journal::strike, look: journal::look, next: journal::next };
+
+/// A call on a card or, but for a format, on a journal.
 #[derive(Clone, Copy, Debug, PartialEq, Eq)]
 pub enum Call {
     Format { buckets: u32, sectors: u32, td: u32, ti: u32 },
@@ -50,6 +63,16 @@ impl Call {
             Call::Strike { bib, at } => (calls.strike)(card, bib, at),
             Call::Look { bib, at } => (calls.look)(card, bib, at),
             Call::Next { bib, at } => (calls.next)(card, bib, at),
+        }
+    }
+
+    pub fn run_on_journal(self, calls: &JournalCalls, journal: &mut [u8]) -> Answer {
+        match self {
+            Call::Format { .. } => panic!("no journal is formatted"),
+            Call::Post { bib, at, time } => (calls.post)(journal, bib, at, time),
+            Call::Strike { bib, at } => (calls.strike)(journal, bib, at),
+            Call::Look { bib, at } => (calls.look)(journal, bib, at),
+            Call::Next { bib, at } => (calls.next)(journal, bib, at),
         }
     }
 }

@@ -13,6 +13,7 @@ mod blank;
 mod bucket;
 pub mod call;
 mod head;
+pub mod journal;
 pub mod list;
 mod log;
 mod panel;
