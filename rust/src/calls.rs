@@ -5,7 +5,7 @@ use crate::refusal::refused;
 use crate::{Answers, Look, Panel, Record, Records, Refusal, Shape, State};
 
 /// The answer of an accepted call, or the refusal.
-fn accepted(answer: Answer) -> Result<Answer, Refusal> {
+pub(crate) fn accepted(answer: Answer) -> Result<Answer, Refusal> {
     refused(answer.code).map_or(Ok(answer), Err)
 }
 

@@ -4,7 +4,8 @@
 //! erasure is a further entry, and every question can be asked as of any past stamp. The calls are
 //! those of the proved library `libcard.a`; this crate lends it slices and turns its numbers into
 //! Rust types. No call panics, whatever bytes the card holds. No call allocates, and the crate needs
-//! `core` alone. What each byte of a card means is said in `docs/FORMAT.md`.
+//! `core` alone. What each byte of a card means is said in `docs/FORMAT.md`. [`journal`] is a second engine, for
+//! a controller without room for a card.
 //!
 //! ```
 //! use card::{Record, Shape};
@@ -33,6 +34,7 @@
 
 mod answers;
 mod calls;
+pub mod journal;
 pub mod numbers;
 mod panel;
 mod record;

@@ -15,7 +15,7 @@ pub struct Answer {
     pub at: u32,
     /// Its time in thousandths of a second.
     pub time: u32,
-    /// The buckets read, in [`look`] only.
+    /// The buckets read, in [`look`] only; a journal has none.
     pub reads: u32,
 }
 
@@ -104,10 +104,14 @@ mod library {
         ) -> u32;
         pub fn card_state(card: *const u8, len: usize) -> State;
         pub fn card_digits(time: u32, field: u32) -> Digits;
+        pub fn journal_post(journal: *mut u8, len: usize, bib: u32, at: u32, time: u32) -> Answer;
+        pub fn journal_strike(journal: *mut u8, len: usize, bib: u32, at: u32) -> Answer;
+        pub fn journal_look(journal: *const u8, len: usize, bib: u32, at: u32) -> Answer;
+        pub fn journal_next(journal: *const u8, len: usize, bib: u32, at: u32) -> Answer;
     }
 }
 
-// Each call below is sound for one reason: the library takes every card, every request and every number,
+// Each call below is sound for one reason: the library takes every card, journal, request and number,
 // and it reads and writes only the bytes lent to it, as many from each pointer as the length behind it says,
 // which the slices lend for the call alone. Slices of which one can be written never overlap.
 
@@ -170,4 +174,24 @@ pub fn state(card: &[u8]) -> State {
 /// As [`crate::digits`].
 pub fn digits(time: u32, field: u32) -> Digits {
     unsafe { library::card_digits(time, field) }
+}
+
+/// As [`crate::journal::post`].
+pub fn journal_post(journal: &mut [u8], bib: u32, at: u32, time: u32) -> Answer {
+    unsafe { library::journal_post(journal.as_mut_ptr(), journal.len(), bib, at, time) }
+}
+
+/// As [`crate::journal::strike`].
+pub fn journal_strike(journal: &mut [u8], bib: u32, at: u32) -> Answer {
+    unsafe { library::journal_strike(journal.as_mut_ptr(), journal.len(), bib, at) }
+}
+
+/// As [`crate::journal::look`].
+pub fn journal_look(journal: &[u8], bib: u32, at: u32) -> Answer {
+    unsafe { library::journal_look(journal.as_ptr(), journal.len(), bib, at) }
+}
+
+/// As [`crate::journal::next`].
+pub fn journal_next(journal: &[u8], bib: u32, at: u32) -> Answer {
+    unsafe { library::journal_next(journal.as_ptr(), journal.len(), bib, at) }
 }

@@ -8,18 +8,18 @@ use core::fmt;
 #[non_exhaustive]
 #[repr(u32)]
 pub enum Refusal {
-    /// 1: the head or the length breaks the layout.
+    /// 1: the head or the length breaks the layout; of a [`crate::journal`], that the slice is none.
     Layout = 1,
     /// 2: bib 0.
     NoBib = 2,
-    /// 3: the stamp is not above the largest stamp on the card.
+    /// 3: the stamp is not above the largest stamp on the card, or of the journal.
     Stamp = 3,
     /// 4: damage met on the root log or on the path.
     Damage = 4,
     /// 5: nothing stands that could be struck.
     NothingStands = 5,
     /// 6: more fresh buckets needed than remain, or than a season's target has, or no blank left in the root
-    /// log.
+    /// log, or in a journal.
     Full = 6,
     /// 7: the field is not of 4, 5 or 6 digits, or the time is too long for it.
     Panel = 7,

@@ -3,12 +3,12 @@
 
 mod common;
 
-use card_model::call::{Call, Calls, MODEL};
+use card_model::call::{Call, Calls, JournalCalls, MODEL, MODEL_JOURNAL};
 use common::batch;
 use common::growth::{Day, Geometry};
 use common::pair::Tally;
 use common::random::Random;
-use common::{length, LIBRARY};
+use common::{length, LIBRARY, LIBRARY_JOURNAL};
 use std::alloc::{GlobalAlloc, Layout, System};
 use std::cell::Cell;
 use std::hint::black_box;
@@ -118,6 +118,33 @@ fn seasons(side: &Calls) -> Tally {
         }
     }
     tally
+}
+
+/// Days on journals that fill up, and on slices that are none; what is answered by number.
+fn journals(side: &JournalCalls) -> Tally {
+    let mut tally = Tally::default();
+    for seed in 1..=40 {
+        let mut random = Random::new(seed);
+        let mut journal = vec![0; 16 * random.within(0, 200) as usize + usize::from(seed % 10 == 0)];
+        let mut day = Day::random(&mut random);
+        let calls = (0..400).map(|_| day.call(&mut random));
+        for call in calls.filter(|call| !matches!(call, Call::Format { .. })) {
+            let (answer, count) = asked(|| call.run_on_journal(side, &mut journal));
+            assert_eq!(count, 0, "{call:?}, answered {answer:?}");
+            tally[answer.code as usize] += 1;
+        }
+    }
+    tally
+}
+
+#[test]
+fn no_call_on_a_journal_allocates() {
+    for side in [LIBRARY_JOURNAL, MODEL_JOURNAL] {
+        let tally = journals(&side);
+        for number in [0, 1, 2, 3, 5, 6] {
+            assert!(tally[number] > 0, "no call on a journal was answered {number}");
+        }
+    }
 }
 
 #[test]

@@ -2,10 +2,11 @@
 
 mod common;
 
-use card_model::call::{Call, MODEL};
+use card_model::call::{Call, MODEL, MODEL_JOURNAL};
 use common::bytes::get;
 use common::growth::Geometry;
-use common::{batch, deep, length, stack, LIBRARY};
+use common::journal::journal;
+use common::{batch, deep, length, stack, LIBRARY, LIBRARY_JOURNAL};
 
 const HEADER: &str = include_str!("../../include/card.h");
 
@@ -119,4 +120,25 @@ fn on_any_card() {
     }
     let batch = of_batch(&full, post);
     assert!(batch <= most, "a batch with {post:?} takes {batch}");
+}
+
+/// A long journal of bibs that are all struck but for the last, so that a next has to pass over them.
+#[test]
+fn on_journals() {
+    let most = said("CARD_STACK_OURS");
+    let entries = (1..=400).flat_map(|bib| [(1, bib, 2 * bib - 1, 7), (2, bib, 2 * bib, 0)]);
+    let mut entries: Vec<_> = entries.collect();
+    entries.push((1, 401, 900, 7));
+    let long = journal(1000, &entries);
+    let (bib, at) = (401, u32::MAX);
+    for call in [
+        Call::Post { bib, at, time: 1 },
+        Call::Strike { bib, at },
+        Call::Look { bib, at },
+        Call::Next { bib: 0, at },
+    ] {
+        assert_eq!(call.run_on_journal(&MODEL_JOURNAL, &mut long.clone()).code, 0, "{call:?}");
+        let taken = stack::of_journal_call(LIBRARY_JOURNAL, &long, call);
+        assert!(taken <= most, "{call:?} on a journal takes {taken}");
+    }
 }

@@ -8,6 +8,7 @@ pub mod deep;
 pub mod foreign;
 pub mod growth;
 pub mod guarded;
+pub mod journal;
 pub mod listed;
 pub mod mutate;
 pub mod pair;
@@ -16,7 +17,7 @@ pub mod season;
 pub mod stack;
 pub mod wrapper;
 
-use card_model::call::Calls;
+use card_model::call::{Calls, JournalCalls};
 use card_model::{Answer, Digits, State};
 use pair::Tally;
 use std::env;
@@ -39,6 +40,14 @@ pub const LIBRARY: Calls = Calls {
         let card::numbers::Digits { code, places } = card::numbers::digits(time, field);
         Digits { code, places }
     },
+};
+
+/// The proved library's calls on a journal.
+pub const LIBRARY_JOURNAL: JournalCalls = JournalCalls {
+    post: |journal, bib, at, time| answer(card::numbers::journal_post(journal, bib, at, time)),
+    strike: |journal, bib, at| answer(card::numbers::journal_strike(journal, bib, at)),
+    look: |journal, bib, at| answer(card::numbers::journal_look(journal, bib, at)),
+    next: |journal, bib, at| answer(card::numbers::journal_next(journal, bib, at)),
 };
 
 fn answer(a: card::numbers::Answer) -> Answer {

@@ -11,7 +11,7 @@ use card_model::Answer;
 /// How often each answer number, from 0 to 13, was given.
 pub type Tally = [u64; 14];
 
-fn is_question(call: Call) -> bool {
+pub fn is_question(call: Call) -> bool {
     matches!(call, Call::Look { .. } | Call::Next { .. })
 }
 

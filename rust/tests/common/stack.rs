@@ -1,7 +1,7 @@
 //! How many bytes of stack a call takes. A thread's unused stack is painted, the call is made, and the
 //! paint left at the far end tells how deep the call went.
 
-use card_model::call::{Call, Calls};
+use card_model::call::{Call, Calls, JournalCalls};
 use std::hint::black_box;
 use std::{ptr, thread};
 
@@ -47,6 +47,14 @@ pub fn of_call(side: Calls, card: &[u8], call: Call) -> usize {
     let mut copy = card.to_vec();
     on_a_thread(move || {
         black_box(call.run(&side, &mut copy));
+    })
+}
+
+/// What a call takes on a copy of the journal.
+pub fn of_journal_call(side: JournalCalls, journal: &[u8], call: Call) -> usize {
+    let mut copy = journal.to_vec();
+    on_a_thread(move || {
+        black_box(call.run_on_journal(&side, &mut copy));
     })
 }
 

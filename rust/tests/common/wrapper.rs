@@ -1,7 +1,7 @@
 //! The safe functions as a table of calls: what they say in Rust types, turned back into numbers.
 
-use card::{Look, Record, Refusal, Shape};
-use card_model::call::Calls;
+use card::{journal, Look, Record, Refusal, Shape};
+use card_model::call::{Calls, JournalCalls};
 use card_model::{Answer, Digits, State};
 
 pub const WRAPPER: Calls = Calls {
@@ -49,6 +49,20 @@ pub const WRAPPER: Calls = Calls {
             Digits { code: 0, places: panel.places() }
         }
         Err(refusal) => Digits { code: refusal.into(), places: [0; 6] },
+    },
+};
+
+/// The same for the safe functions on a journal.
+pub const WRAPPER_JOURNAL: JournalCalls = JournalCalls {
+    post: |journal, bib, at, time| done(journal::post(journal, bib, at, time)),
+    strike: |journal, bib, at| done(journal::strike(journal, bib, at)),
+    look: |journal, bib, at| match journal::look(journal, bib, at) {
+        Ok(record) => record.map_or(Answer { bib, ..Answer::ACCEPTED }, found),
+        Err(refusal) => refused(refusal),
+    },
+    next: |journal, bib, at| match journal::next(journal, bib, at) {
+        Ok(record) => record.map_or(Answer::ACCEPTED, found),
+        Err(refusal) => refused(refusal),
     },
 };
 
