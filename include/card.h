@@ -54,6 +54,13 @@
  *
  * The beginning. A card made by card_format answers as of every stamp from 0. One made by card_season
  * as of a stamp begins with that stamp, and questions as of an earlier one are refused with 13.
+ *
+ * The journal. A controller that has no room for a card's tree keeps a plain journal: the journal_
+ * calls, the last ones below. What is said above of every call, of threads, stack, machine, blank
+ * bytes and the last stamp holds for them too: journal_post and journal_strike need the journal
+ * alone, any number of threads may ask it. Power lost inside one of those two may leave its sector
+ * in part: the slice may then be no journal, or have another last entry than was asked for. The
+ * sectors before that one are a journal still, if they are lent by themselves.
  */
 #ifndef CARD_H
 #define CARD_H
@@ -101,12 +108,13 @@ extern "C" {
 /* The answer numbers. */
 enum card_code {
     CARD_OK = 0,             /* accepted, found, none or the end */
-    CARD_LAYOUT = 1,         /* the head or the length is not that of a card */
+    CARD_LAYOUT = 1,         /* the head or the length is not that of a card; or no journal */
     CARD_NO_BIB = 2,         /* bib 0 */
-    CARD_STAMP = 3,          /* the stamp is not above every stamp of the card's buckets */
+    CARD_STAMP = 3,          /* the stamp is not above every stamp of the buckets, or journal */
     CARD_DAMAGE = 4,         /* damage met on the root log or on the path */
     CARD_NOTHING_STANDS = 5, /* a strike where nothing stands */
-    CARD_FULL = 6,           /* more fresh buckets needed than remain, or no blank in the root log */
+    CARD_FULL = 6,           /* more fresh buckets needed than remain, or no blank in the root log
+                              * or journal */
     CARD_PANEL = 7,          /* no such field, or the time is too long for it */
     CARD_SHAPE = 8,          /* a limit of the shape broken, or the length not the shape's */
     CARD_NOT_BLANK = 9,      /* a byte of the card to be made is nonzero */
@@ -121,7 +129,7 @@ enum card_kind {
     CARD_KIND_STRIKE = 2
 };
 
-/* What an answer number means, in words. */
+/* What an answer number means, in words. Of a journal 1, 3 and 6 say "the card" too. */
 static inline const char *card_text(uint32_t code) {
     switch (code) {
     case CARD_OK:
@@ -155,13 +163,13 @@ static inline const char *card_text(uint32_t code) {
     }
 }
 
-/* The answer of a call on a card. */
+/* The answer of a call on a card or on a journal. */
 struct card_answer {
     uint32_t code;  /* an enum card_code */
     uint32_t bib;   /* the record's bib */
     uint32_t at;    /* its stamp; 0 is no record */
     uint32_t time;  /* its time in thousandths of a second */
-    uint32_t reads; /* buckets read, in card_look only */
+    uint32_t reads; /* buckets read, in card_look only; a journal has none */
 };
 
 /* The answer of card_records. */
@@ -303,6 +311,40 @@ struct card_state card_state(const uint8_t *card, size_t len);
  * Refused: 7, field not 4, 5 or 6, or the time, so rounded, too long for it: above 59.99, 9:59.99,
  * 99:59.99. */
 struct card_digits card_digits(uint32_t time, uint32_t field);
+
+/* The plain journal: accepted posts and strikes in arrival order, one sector of 16 bytes for each, on
+ * a slice of `len` bytes at `journal` that is blank at first. There is nothing to format, and all
+ * of the slice is for entries; but every call reads it through, so that a question takes the longer
+ * the longer the slice is. docs/PERFORMANCE.md says where a card begins to be quicker.
+ * A slice is a journal if `len` is a multiple of 16 and its sectors are posts and strikes, laid out
+ * as the requests of card_batch are, then blanks: bibs from 1, and stamps from 1, each above the one
+ * before it. Whether a strike struck something is not asked. An empty slice is a journal, and full.
+ * From a blank slice and a card just formatted, the same calls are answered alike, but for the reads,
+ * until one of the two has answered 6. No call on a journal answers 4 or 13. */
+
+/* Writes a time for `bib`: a first one or a correction.
+ * Refused: 1, the slice is no journal; 2, bib 0; 3, `at` not above the last stamp, or 0; 6, no blank
+ * sector.
+ * Leaves the entry in the first blank sector, and every other byte as it was. The answer is all
+ * zeros. */
+struct card_answer journal_post(uint8_t *journal, size_t len, uint32_t bib, uint32_t at, uint32_t time);
+
+/* Erases what stands for `bib`, for questions as of `at` and later.
+ * Refused: 1, 2, 3 as journal_post; 5, nothing stands; 6 as journal_post.
+ * Leaves what journal_post would, with a strike in the place of the post. The answer is all zeros. */
+struct card_answer journal_strike(uint8_t *journal, size_t len, uint32_t bib, uint32_t at);
+
+/* What stands for `bib` as of stamp `at`.
+ * Found: bib, stamp and time of the record. None: bib, stamp 0, time 0. Reads is 0.
+ * Refused: 1, the slice is no journal; 2, bib 0.
+ * Leaves the journal as it was. */
+struct card_answer journal_look(const uint8_t *journal, size_t len, uint32_t bib, uint32_t at);
+
+/* The record of the smallest bib above `bib` that stands as of stamp `at`; `bib` may be 0.
+ * Found: bib, stamp and time of the record. The end: all zeros. Reads is 0.
+ * Refused: 1, the slice is no journal.
+ * Leaves the journal as it was. */
+struct card_answer journal_next(const uint8_t *journal, size_t len, uint32_t bib, uint32_t at);
 
 #ifdef __cplusplus
 #ifdef __GNUC__

@@ -202,6 +202,56 @@ static void states(void) {
     CHECK(memcmp(&state, &left, sizeof state) == 0);
 }
 
+/* A journal of three sectors, in the layout that the header words, from blank to full. */
+static void journals(void) {
+    static const struct card_answer accepted = {CARD_OK, 0, 0, 0, 0};
+    static const struct card_answer found = {CARD_OK, 8, 10, 61, 0}, none = {CARD_OK, 8, 0, 0, 0};
+    uint8_t journal[3 * CARD_SECTOR_BYTES] = {0}, expected[sizeof journal] = {0};
+    struct card_answer answer = journal_post(journal, sizeof journal, 8, 10, 61);
+    CHECK(memcmp(&answer, &accepted, sizeof answer) == 0);
+    CHECK(journal_post(journal, sizeof journal, 3, 20, 58).code == CARD_OK);
+    answer = journal_strike(journal, sizeof journal, 8, 30);
+    CHECK(memcmp(&answer, &accepted, sizeof answer) == 0);
+    request(expected, CARD_KIND_POST, 8, 10, 61);
+    request(expected + 16, CARD_KIND_POST, 3, 20, 58);
+    request(expected + 32, CARD_KIND_STRIKE, 8, 30, 0);
+    CHECK(memcmp(journal, expected, sizeof journal) == 0);
+    answer = journal_look(journal, sizeof journal, 8, 29);
+    CHECK(memcmp(&answer, &found, sizeof answer) == 0);
+    answer = journal_look(journal, sizeof journal, 8, 30);
+    CHECK(memcmp(&answer, &none, sizeof answer) == 0);
+    answer = journal_next(journal, sizeof journal, 3, 29);
+    CHECK(memcmp(&answer, &found, sizeof answer) == 0);
+    answer = journal_next(journal, sizeof journal, 3, CARD_NOW);
+    CHECK(memcmp(&answer, &accepted, sizeof answer) == 0);
+    CHECK(memcmp(journal, expected, sizeof journal) == 0);
+}
+
+/* The refusals of the journal's calls in the header's order, each where those behind it would be given too. */
+static void refused_journals(void) {
+    static const struct card_answer refused = {CARD_LAYOUT, 0, 0, 0, 0};
+    uint8_t journal[CARD_SECTOR_BYTES] = {0}, before[sizeof journal];
+    struct card_answer answer;
+    request(journal, CARD_KIND_POST, 8, 10, 61);
+    memcpy(before, journal, sizeof journal);
+    answer = journal_strike(journal, sizeof journal - 1, 0, 10);
+    CHECK(memcmp(&answer, &refused, sizeof answer) == 0);
+    CHECK(journal_strike(journal, sizeof journal, 0, 10).code == CARD_NO_BIB);
+    CHECK(journal_strike(journal, sizeof journal, 7, 10).code == CARD_STAMP);
+    CHECK(journal_strike(journal, sizeof journal, 7, 11).code == CARD_NOTHING_STANDS);
+    CHECK(journal_strike(journal, sizeof journal, 8, 11).code == CARD_FULL);
+    CHECK(journal_post(journal, sizeof journal, 0, 10, 1).code == CARD_NO_BIB);
+    CHECK(journal_post(journal, sizeof journal, 7, 10, 1).code == CARD_STAMP);
+    CHECK(journal_post(journal, sizeof journal, 7, 11, 1).code == CARD_FULL);
+    CHECK(journal_post(journal, 0, 7, 11, 1).code == CARD_FULL);
+    CHECK(journal_look(journal, sizeof journal - 1, 0, 10).code == CARD_LAYOUT);
+    CHECK(journal_look(journal, sizeof journal, 0, 10).code == CARD_NO_BIB);
+    CHECK(memcmp(journal, before, sizeof journal) == 0);
+    journal[0] = 3;
+    CHECK(journal_next(journal, sizeof journal, 0, 10).code == CARD_LAYOUT);
+    CHECK(journal_post(journal, sizeof journal, 7, 11, 1).code == CARD_LAYOUT);
+}
+
 static void texts(void) {
     static const char *const said[] = {
         "accepted",
@@ -242,6 +292,8 @@ int main(void) {
     refused_seasons();
     copied_seasons();
     states();
+    journals();
+    refused_journals();
     texts();
     version();
     return wrong;
