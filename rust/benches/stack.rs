@@ -6,14 +6,22 @@
 mod common;
 mod grown;
 
-use card_model::call::{Call, MODEL};
+use card_model::call::{Call, MODEL, MODEL_JOURNAL};
 use common::growth::Geometry;
-use common::{batch, deep, stack, LIBRARY};
+use common::journal::journal;
+use common::{batch, deep, stack, LIBRARY, LIBRARY_JOURNAL};
 use grown::Grown;
 
 fn row(what: &str, card: &[u8], call: Call, code: u32) {
     assert_eq!(call.run(&MODEL, &mut card.to_vec()).code, code, "{what}");
     let [library, rust] = [LIBRARY, MODEL].map(|side| stack::of_call(side, card, call));
+    println!("| {what} | {library} | {rust} |");
+}
+
+fn journal_row(what: &str, journal: &[u8], call: Call) {
+    assert_eq!(call.run_on_journal(&MODEL_JOURNAL, &mut journal.to_vec()).code, 0, "{what}");
+    let sides = [LIBRARY_JOURNAL, MODEL_JOURNAL];
+    let [library, rust] = sides.map(|side| stack::of_journal_call(side, journal, call));
     println!("| {what} | {library} | {rust} |");
 }
 
@@ -68,6 +76,12 @@ fn main() {
     batch_row("batch of 100 posts, some of which rewrite", &grown.card, &posts);
     season_row("season", &grown.card, grown.geometry);
     println!("| digits | {} | {} |", stack::of_digits(LIBRARY), stack::of_digits(MODEL));
+    let entries: Vec<_> = (1..=400).map(|bib| (1, bib, bib, 7)).collect();
+    let slice = journal(500, &entries);
+    journal_row("journal: post", &slice, Call::Post { bib: 9, at, time: 1 });
+    journal_row("journal: strike", &slice, Call::Strike { bib: 9, at });
+    journal_row("journal: look", &slice, Call::Look { bib: 9, at });
+    journal_row("journal: next", &slice, Call::Next { bib: 9, at });
     let levels = deep::card(2047, |_| 4, false);
     row("look, 2,047 index levels", &levels, Call::Look { bib: 1, at }, 0);
     season_row("season, 2,047 index levels", &levels, grown.geometry);
