@@ -77,11 +77,12 @@ fn main() {
     season_row("season", &grown.card, grown.geometry);
     println!("| digits | {} | {} |", stack::of_digits(LIBRARY), stack::of_digits(MODEL));
     let entries: Vec<_> = (1..=400).map(|bib| (1, bib, bib, 7)).collect();
-    let slice = journal(500, &entries);
-    journal_row("journal: post", &slice, Call::Post { bib: 9, at, time: 1 });
-    journal_row("journal: strike", &slice, Call::Strike { bib: 9, at });
-    journal_row("journal: look", &slice, Call::Look { bib: 9, at });
-    journal_row("journal: next", &slice, Call::Next { bib: 9, at });
+    // above every stamp of the slice
+    let (slice, now) = (journal(500, &entries), u32::MAX);
+    journal_row("journal: post", &slice, Call::Post { bib: 9, at: now, time: 1 });
+    journal_row("journal: strike", &slice, Call::Strike { bib: 9, at: now });
+    journal_row("journal: look", &slice, Call::Look { bib: 9, at: now });
+    journal_row("journal: next", &slice, Call::Next { bib: 9, at: now });
     let levels = deep::card(2047, |_| 4, false);
     row("look, 2,047 index levels", &levels, Call::Look { bib: 1, at }, 0);
     season_row("season, 2,047 index levels", &levels, grown.geometry);
