@@ -3,7 +3,7 @@ use mathlib.Core.Path.{_≡_, refl, ap, sym, _∙_, subst}
 use mathlib.Core.Logic.{⊎-elim}
 use mathlib.Core.Bool.{Bool, true, false}
 use mathlib.Core.Option.{Option, none, some}
-use Prim.Native.Nat.{ℕ, suc, _+_, _*_, _/_, _%_}
+use Prim.Native.Nat.{ℕ, zero, suc, _+_, _*_, _/_, _%_, _≤_}
 use native.Mathlib.Omega.{arith}
 use mathlib.Core.List.{List, [], _∷_}
 use lib.Dec.{ltb}
@@ -12,12 +12,16 @@ use borrow.Author.Tests.{eq-eqb, ne-eqb}
 use Rattle.rules.specs.declared.Entry.{Entry}
 use Rattle.rules.specs.declared.Sector.{Sector}
 use Rattle.rules.specs.declared.Sector.the-variants.{Blank, Held, Damaged}
-use Rattle.rules.specs.Bucket.{onto}
+use Rattle.rules.specs.Bucket.{onto, run}
 use Rattle.rules.specs.Journal.{rising, soundJournal, journal, stampIn, nextOf, journalNextIn, journalNext}
 use Rattle.rules.specs.Next.{standingAbove}
 use Rattle.rules.specs.Plain.{if, _&_, andThen, lastOf}
-use Rattle.rules.specs.Sector.{isData}
+use Rattle.rules.specs.Sector.{isData, decode, sectorAt}
 use Rattle.rules.specs.Walk.{left}
+use Rattle.laws.proofs.Journals.{InOrder, journal-order}
+use Rattle.laws.proofs.Run.{onto-inv}
+use Rattle.laws.proofs.Buckets.{run-length}
+use Rattle.scan.specs.Next.{runs, standIn}
 use Rattle.laws.proofs.Tools.{none-some, bool-cases, true-false, false-true, and-true, true-and}
 use Rattle.scan.specs.declared.Found.{Found}
 use Rattle.scan.specs.declared.Found.the-variants.{Nothing}
@@ -25,7 +29,7 @@ use Rattle.scan.specs.Scan.{sectors, pick}
 use Rattle.scan.proofs.Runs.{runOf, run-sectors, blank-run, fold}
 use Rattle.scan.proofs.Picks.{hit, fold-data}
 use Rattle.scan.proofs.Mins.{blank-nil, held-cons, damaged-no, stand-run, stand-above}
-use Rattle.journal.specs.Passes.{follows, risen, pass, passed, readScan, passOf, readingOf, nextScan, nextTold}
+use Rattle.journal.specs.Passes.{follows, risen, pass, passed, readScan, passOf, readingOf, nextTold}
 
 -- the stamp of the last entry, or s where there is none
 unfoldable stampFrom : ℕ → List Entry → ℕ
@@ -138,18 +142,45 @@ reading-is x t slice count long =
     (bool-cases (risen 0 (sectors 0 slice 0 count)))
 
 -- next's question is the rule's
+onto-some : (e : Entry) (es : List Entry) → onto (Held e) (some es) ≡ some (e ∷ es)
+unfolding onto
+onto-some e es = refl
+
 told-hit : (o : Option Entry) → nextTold (hit o) ≡ nextOf o
 unfolding nextTold hit nextOf
 told-hit none = refl
 told-hit (some e) = refl
 
-pub next-is : (k t : ℕ) (slice : List ℕ) (count : ℕ) → length slice ≡ 16 * count
-    → nextTold (nextScan k t (sectors 0 slice 0 count) 0 Nothing) ≡ journalNext slice k t
-unfolding nextScan journalNext journalNextIn nextTold
-next-is k t slice count long =
+-- the written sectors of a journal alone
+written-run : (slice : List ℕ) (s i c : ℕ) (es : List Entry) → run 0 slice i c ≡ some es → rising s es ≡ true
+    → (runOf (sectors 0 slice i (length es)) ≡ some es) × (runs isData (sectors 0 slice i (length es)) ≡ true)
+unfolding run rising runOf sectors runs
+written-run slice s i zero es q r = let z : [] ≡ es = cc in subst (λ l. (runOf (sectors 0 slice i (length l)) ≡ some l) × (runs isData (sectors 0 slice i (length l)) ≡ true)) z (refl, refl)
+written-run slice s i (suc c) es q r =
     ⊎-elim
-    (λ (q : risen 0 (sectors 0 slice 0 count) ≡ true).
-    let j = journal-sound slice count long q in
-    rw (q, j .2, stand-run k t (sectors 0 slice 0 count) (j .0) Nothing (j .1), stand-above k t (j .0)) (told-hit (standingAbove k (left t (j .0)))))
-    (λ (q : risen 0 (sectors 0 slice 0 count) ≡ false). rw (q, journal-broken slice count long q))
-    (bool-cases (risen 0 (sectors 0 slice 0 count)))
+    (λ (v : (decode 0 (sectorAt slice i) ≡ Blank) × (es ≡ []) × (run 0 slice (suc i) c ≡ some [])). rw (v .1) (refl, refl))
+    (λ (v : (x : Entry) × (xs : List Entry) × (decode 0 (sectorAt slice i) ≡ Held x) × (es ≡ x ∷ xs) × (run 0 slice (suc i) c ≡ some xs)).
+    let up : rising s (v .0 ∷ v .1) ≡ true = subst (λ l. rising s l ≡ true) (v .3) r in
+    let a = and-true (isData (v .0)) (ltb s (v .0 .stamp) & rising (v .0 .stamp) (v .1)) up in
+    let b = and-true (ltb s (v .0 .stamp)) (rising (v .0 .stamp) (v .1)) (a .1) in
+    let on = written-run slice (v .0 .stamp) (suc i) c (v .1) (v .4) (b .1) in
+    rw (v .3, v .2) (ap (onto (Held (v .0))) (on .0) ∙ onto-some (v .0) (v .1), true-and (a .0) (on .1)))
+    (onto-inv (decode 0 (sectorAt slice i)) (run 0 slice (suc i) c) es q)
+
+-- what next may ask, and what its answer is
+module _ (slice : List ℕ) (es : List Entry) (q : journal slice ≡ some es) (used : ℕ) (all : used ≡ length es) where
+  order : InOrder slice es
+  order = journal-order slice es q
+
+  pub written-runs : runs isData (sectors 0 slice 0 used) ≡ true
+  written-runs = rw all (written-run slice 0 0 (length slice / 16) es (order .1) (order .2) .1)
+
+  pub written-lies : 16 * used ≤ length slice
+  written-lies = let most = run-length 0 slice 0 (length slice / 16) es (order .1) in omega (arith, most, all)
+
+  pub next-is : (k t : ℕ) → nextTold (standIn k t (sectors 0 slice 0 used) Nothing) ≡ journalNext slice k t
+  unfolding journalNext journalNextIn
+  next-is k t =
+      let r = written-run slice 0 0 (length slice / 16) es (order .1) (order .2) .0 in
+      ap nextTold (ap (λ n. standIn k t (sectors 0 slice 0 n) Nothing) all ∙ stand-run k t (sectors 0 slice 0 (length es)) es Nothing r ∙ stand-above k t es)
+      ∙ told-hit (standingAbove k (left t es)) ∙ sym (rw q)

@@ -1,12 +1,12 @@
 -- What one sector read says of the whole journal, as the loops have the numbers.
 use mathlib.Core.Path.{_≡_, refl, ap, sym, _∙_}
 use mathlib.Core.Logic.{⊎-elim}
-use mathlib.Core.Bool.{Bool, true, false, not}
+use mathlib.Core.Bool.{Bool, true, false}
 use mathlib.Core.List.{List, [], _∷_}
 use Prim.Native.Nat.{ℕ, zero, suc, _+_, _≤_}
 use native.Mathlib.Numerals.{add-one}
 use native.Mathlib.Omega.{arith}
-use lib.Dec.{leb, ltb, eqb}
+use lib.Dec.{leb, ltb}
 use borrow.Author.Tests.{le-leb}
 use types.Run.{OneOf}
 use denote.Enum.Declared.{tagOf}
@@ -14,17 +14,16 @@ use Rattle.rules.specs.declared.Entry.{Entry}
 use Rattle.rules.specs.declared.Sector.{Sector}
 use Rattle.rules.specs.declared.Sector.the-variants.{Blank, Held, Damaged}
 use Rattle.rules.specs.Plain.{if, _&_}
-use Rattle.rules.specs.Sector.{sectorAt, fields, decode, isPost}
+use Rattle.rules.specs.Sector.{sectorAt, fields, decode}
 use Rattle.rules.proofs.Sector.{the-type}
-use Rattle.laws.proofs.Bytes.{held-inv}
 use Rattle.scan.specs.declared.Found.{Found}
-use Rattle.scan.specs.declared.Found.the-variants.{Damage, Hit}
+use Rattle.scan.specs.declared.Found.the-variants.{Hit}
 use Rattle.scan.specs.Scan.{allBlank, pick}
-use Rattle.scan.specs.Next.{under, above, stands, unless, pickNext, later, standIn}
+use Rattle.scan.specs.Next.{under, above, aboveAt}
 use Rattle.bucket.specs.Places.{foundAt, isCopy}
 use Rattle.bucket.proofs.Places.{pick-copy, choice}
 use Rattle.journal.specs.declared.Reading.the-variants.{Broken, Sound}
-use Rattle.journal.specs.Passes.{follows, risen, pass, passed, readScan, wanted, takes, nextScan}
+use Rattle.journal.specs.Passes.{follows, risen, pass, passed, readScan, lower}
 
 -- neither an entry nor blank, as the two elses have it
 not-risen : (last : ℕ) (s : Sector) (l : List Sector) → OneOf (0 ∷ 2 ∷ []) (tagOf the-type s) → OneOf (1 ∷ 2 ∷ []) (tagOf the-type s) → risen last (s ∷ l) ≡ false
@@ -59,21 +58,6 @@ pub copy-place : (slice : List ℕ) (i place : ℕ) (e : Entry) → decode 0 (se
 copy-place slice i place e held x t r b q is =
     pick-copy x t (foundAt slice place) e ∙ choice 0 slice i place e held (isCopy x t e) ∙ ap (foundAt slice) (sym (is ∙ ap (λ c. if c (i + 1) place) q))
 
--- a later copy, met or not
-pub later-held : (x t : ℕ) (s : Sector) (e : Entry) (l : List Sector) (b : Bool) → s ≡ Held e → b ≡ isCopy x t e → if b true (later x t l) ≡ later x t (s ∷ l)
-unfolding later isCopy
-later-held x t s e l b is q = rw (is, q) (go (leb (e .stamp) t) (eqb (e .key) x) (later x t l))
-  where
-    go : (a b c : Bool) → if (a & b) true c ≡ if a (if b true c) c
-    go true b c = refl
-    go false b c = refl
-
-pub later-other : (x t : ℕ) (s : Sector) (l : List Sector) → OneOf (0 ∷ 2 ∷ []) (tagOf the-type s) → false ≡ later x t (s ∷ l)
-unfolding later
-later-other x t Blank l p = refl
-later-other x t (Held e) l p = ⊎-elim (λ a. absurd (omega arith)) (λ c. absurd (omega arith)) p
-later-other x t Damaged l p = refl
-
 -- the smallest so far by its place; any bib is below none
 unfoldable pub lowAt : List ℕ → ℕ → ℕ
 lowAt slice zero = 4294967295
@@ -84,48 +68,31 @@ unfolding under foundAt lowAt
 under-low slice zero e le = rw (le-leb (e .key) 4294967295 le)
 under-low slice (suc i) e le = refl
 
--- the tests in the order of the code
-in-order : {A : Type 0} (s again p q l : Bool) (taken kept : A)
-    → if s (if again kept (if p (if q (if l taken kept) kept) kept)) kept ≡ if ((p & s & q & l) & not again) taken kept
-in-order true true true true true taken kept = refl
-in-order true true true true false taken kept = refl
-in-order true true true false l taken kept = refl
-in-order true true false q l taken kept = refl
-in-order true false true true true taken kept = refl
-in-order true false true true false taken kept = refl
-in-order true false true false l taken kept = refl
-in-order true false false q l taken kept = refl
-in-order false again true q l taken kept = refl
-in-order false again false q l taken kept = refl
+in-order : {A : Type 0} (s q l : Bool) (taken kept : A) → if s (if q (if l taken kept) kept) kept ≡ if (s & q & l) taken kept
+in-order true true l taken kept = refl
+in-order true false l taken kept = refl
+in-order false q l taken kept = refl
 
--- the run behind an entry is asked last
-pub takes-if : (k t low : ℕ) (again : Bool) (e : Entry) (b r : Bool) → b ≡ wanted k t low e → b ≡ true → r ≡ again → not r ≡ takes k t low again e
-unfolding takes
-takes-if k t low again e b r q yes-wanted is = rw (← q, yes-wanted, is)
+-- the fields of sector i, against the best so far
+module _ (slice : List ℕ) (i best x t low : ℕ) (b : Bool) (fits : fields (sectorAt slice i) .key ≤ 4294967295) (is : low ≡ lowAt slice best) where
+  abbrev e : Entry
+  e = fields (sectorAt slice i)
 
-module _ (slice : List ℕ) (i best : ℕ) (e : Entry) (held : decode 0 (sectorAt slice i) ≡ Held e) (fits : e .key ≤ 4294967295) (k t : ℕ) (rest : Bool) where
-  pub next-place : (low r : ℕ) (b : Bool) → low ≡ lowAt slice best → b ≡ takes k t low rest e → r ≡ if b (i + 1) best
-      → pickNext k t rest (foundAt slice best) e ≡ foundAt slice r
-  unfolding pickNext unless stands above takes wanted
-  next-place low r b is q place =
-      rw (under-low slice best e fits, ← is) (in-order (leb (e .stamp) t) rest (isPost e) (ltb k (e .key)) (leb (e .key) low) (Hit e) (foundAt slice best))
-      ∙ choice 0 slice i best e held (takes k t low rest e) ∙ ap (foundAt slice) (sym (place ∙ ap (λ c. if c (i + 1) best) q))
+  place : (c : Bool) → if c (Hit e) (foundAt slice best) ≡ foundAt slice (if c (i + 1) best)
+  unfolding foundAt
+  place true = rw add-one
+  place false = refl
 
-  pub next-low : (low less r : ℕ) (b : Bool) → low ≡ lowAt slice best → less ≡ if b (e .key) low → r ≡ if b (i + 1) best → less ≡ lowAt slice r
+  pub least-place : (r : ℕ) → b ≡ lower x t low e → r ≡ if b (i + 1) best → aboveAt x t (foundAt slice best) e ≡ foundAt slice r
+  unfolding aboveAt above lower
+  least-place r q at-place =
+      rw (under-low slice best e fits, ← is) (in-order (leb (e .stamp) t) (ltb x (e .key)) (leb (e .key) low) (Hit e) (foundAt slice best))
+      ∙ place (lower x t low e) ∙ ap (foundAt slice) (sym (at-place ∙ ap (λ c. if c (i + 1) best) q))
+
+  pub least-low : (less r : ℕ) → less ≡ if b (e .key) low → r ≡ if b (i + 1) best → less ≡ lowAt slice r
   unfolding lowAt
-  next-low low less r true is l place = l ∙ sym (rw (place, add-one) (ap (λ (d : Entry). d .key) (held-inv 0 (sectorAt slice i) e held .0)))
-  next-low low less r false is l place = l ∙ is ∙ ap (lowAt slice) (sym place)
-
-module _ (k t last : ℕ) (best : Found) where
-  pub next-damaged : (s : Sector) (l : List Sector) → OneOf (0 ∷ 2 ∷ []) (tagOf the-type s) → OneOf (1 ∷ 2 ∷ []) (tagOf the-type s) → Damage ≡ nextScan k t (s ∷ l) last best
-  unfolding nextScan
-  next-damaged s l p q = rw (not-risen last s l p q)
-
-  pub next-blank : (s : Sector) (l : List Sector) (b : Bool) → s ≡ Blank → b ≡ allBlank l → if b best Damage ≡ nextScan k t (s ∷ l) last best
-  unfolding nextScan risen standIn
-  next-blank s l b is q = rw (is, q)
-
-  pub next-held : (s : Sector) (e : Entry) (l : List Sector) (b : Bool) → s ≡ Held e → b ≡ follows last e
-      → if b (nextScan k t l (e .stamp) (pickNext k t (later (e .key) t l) best e)) Damage ≡ nextScan k t (s ∷ l) last best
-  unfolding nextScan risen standIn
-  next-held s e l b is q = rw (is, q) (both-tests (follows last e) (risen (e .stamp) l) (standIn k t l (pickNext k t (later (e .key) t l) best e)) Damage)
+  least-low less r l at-place = go b l at-place
+    where
+      go : (c : Bool) → less ≡ if c (e .key) low → r ≡ if c (i + 1) best → less ≡ lowAt slice r
+      go true l at-place = l ∙ sym (rw (at-place, add-one))
+      go false l at-place = l ∙ is ∙ ap (lowAt slice) (sym at-place)

@@ -17,7 +17,6 @@ use Rattle.rules.specs.Walk.{left, copyOf}
 use Rattle.scan.specs.declared.Found.{Found}
 use Rattle.scan.specs.declared.Found.the-variants.{Damage, Nothing, Hit}
 use Rattle.scan.specs.Scan.{allBlank, pick}
-use Rattle.scan.specs.Next.{standIn}
 use Rattle.scan.proofs.Picks.{hit}
 use Rattle.journal.specs.declared.Pass.{Pass}
 use Rattle.journal.specs.declared.Reading.{Reading}
@@ -69,18 +68,11 @@ objection e p count =
     (if (not (isPost e) & not (postFound (p .copy))) 5
     (if (eqb (p .used) count) 6 0)))
 
--- a post stamped t or earlier, its bib above k and not above the lowest so far, with no later copy
-unfoldable pub wanted : ℕ → ℕ → ℕ → Entry → Bool
-wanted k t low e = isPost e & leb (e .stamp) t & ltb k (e .key) & leb (e .key) low
+-- stamped t or earlier, its bib above x and not above the lowest so far
+unfoldable pub lower : ℕ → ℕ → ℕ → Entry → Bool
+lower x t low e = leb (e .stamp) t & ltb x (e .key) & leb (e .key) low
 
-unfoldable pub takes : ℕ → ℕ → ℕ → Bool → Entry → Bool
-takes k t low again e = wanted k t low e & not again
-
--- the smallest standing bib above k, with the best so far
-unfoldable pub nextScan : ℕ → ℕ → List Sector → ℕ → Found → Found
-nextScan k t ss last best = if (risen last ss) (standIn k t ss best) Damage
-
--- what next answers
+-- what next answers; a sound journal gives no damage
 unfoldable pub nextTold : Found → Answer
 nextTold Damage = refused 1
 nextTold Nothing = ended

@@ -6,8 +6,10 @@ ghost use Rattle.rules.specs.Journal.{journal, journalPlan, journalPost, journa
 ghost use Rattle.rules.specs.Write.{planAnswer, planCard};
 ghost use Rattle.laws.proofs.Entries.{Asks};
 ghost use Rattle.scan.specs.Scan.{sectors, allBlank};
-ghost use Rattle.scan.specs.Next.{later};
-ghost use Rattle.journal.specs.Passes.{pass, readScan, readingOf, takes, nextScan, nextTold};
+ghost use Rattle.scan.specs.Next.{aboveAt, weigh, runs, standIn};
+ghost use mathlib.Core.Bool.{true};
+ghost use Rattle.rules.specs.Sector.{isData};
+ghost use Rattle.journal.specs.Passes.{pass, readScan, readingOf, nextTold};
 
 mod picks;
 
@@ -43,7 +45,7 @@ fn blank_behind(slice: &[u8], count: usize, i: usize) -> bool
     sector::all_zero(&slice[16 * i + 16..])
 }
 
-// The one pass of post, strike and look. Only the place of the copy is carried from turn to turn.
+// The one pass of post, strike and look, and the judging one of next. Only the place of the copy is carried from turn to turn.
 fn pass_over(slice: &[u8], count: usize, x: u32, t: u32) -> Reading
     requires { ⌜ length (now slice) ≡ 16 * count ⌝ }
     ensures { λ r. ⌜ r ≡ readScan x t (sectors 0 (now (slice .entry)) 0 count) 0 0 Found.Nothing ⌝ }
@@ -148,74 +150,41 @@ pub fn look(slice: &[u8], bib: u32, at: u32) -> Answer
     walk::tell(bib, 0, copy)
 }
 
-// Whether a copy of x stamped t or earlier lies in the run from sector `from` on.
-fn again(slice: &[u8], count: usize, from: usize, x: u32, t: u32) -> bool
-    requires { ⌜ (length (now slice) ≡ 16 * count) × (from ≤ count) ⌝ }
-    ensures { λ r. ⌜ r ≡ later x t (sectors 0 (now (slice .entry)) from (count - from)) ⌝ }
+// The least bib above x of the entries stamped t or earlier, its last copy. They were judged: keys and stamps are read alone.
+fn least(slice: &[u8], used: usize, x: u32, t: u32) -> Found
+    requires { ⌜ (16 * used ≤ length (now slice)) × (runs isData (sectors 0 (now slice) 0 used) ≡ true) ⌝ }
+    ensures { λ r. ⌜ r ≡ weigh (aboveAt x t) (sectors 0 (now (slice .entry)) 0 used) Found.Nothing ⌝ }
 {
-    let mut i = from;
-    let copied = loop {
-        if i == count {
-            break false;
-        }
-        let s = sector::at(slice, 0, i);
-        let Sector::Held(e) = s else {
-            break false;
-        };
-        if bucket::picks::is_copy(x, t, e) {
-            break true;
-        }
-        i += 1;
-    };
-    copied
-}
-
-// Whether e, with the sectors from `from` on behind it, is a lower standing bib than the lowest so far. The run behind it is
-// asked for a later copy only if nothing else speaks against e.
-fn takes(slice: &[u8], count: usize, from: usize, k: u32, t: u32, low: u32, e: Entry) -> bool
-    requires { ⌜ (length (now slice) ≡ 16 * count) × (from ≤ count) ⌝ }
-    ensures { λ r. ⌜ r ≡ takes k t low (later (e .key) t (sectors 0 (now (slice .entry)) from (count - from))) e ⌝ }
-{
-    if picks::wanted(k, t, low, e) {
-        return !again(slice, count, from, e.key, t);
-    }
-    false
-}
-
-// The smallest standing bib above k, by one pass that judges the journal too: the place of the best so far and its bib are kept.
-fn find_next(slice: &[u8], count: usize, k: u32, t: u32) -> Found
-    requires { ⌜ length (now slice) ≡ 16 * count ⌝ }
-    ensures { λ r. ⌜ r ≡ nextScan k t (sectors 0 (now (slice .entry)) 0 count) 0 Found.Nothing ⌝ }
-{
-    let mut last: u32 = 0;
     let mut best: usize = 0;
     let mut low: u32 = 4294967295;
     let mut i: usize = 0;
-    let found = loop {
-        if i == count {
-            break bucket::entry_at(slice, best);
-        }
-        let s = sector::at(slice, 0, i);
-        let Sector::Held(e) = s else {
-            let Sector::Blank = s else {
-                break Found::Damage;
-            };
-            if blank_behind(slice, count, i) {
-                break bucket::entry_at(slice, best);
-            }
-            break Found::Damage;
+    while i < used {
+        let e = sector::fields_at(slice, i);
+        let lower = picks::lower(x, t, low, e);
+        i += 1;
+        best = bucket::picks::chosen(lower, i, best);
+        low = picks::lowest(lower, e.key, low);
+    }
+    bucket::entry_at(slice, best)
+}
+
+// The smallest standing bib above k: the least bib above k if its last copy is a post, else that above it.
+fn standing(slice: &[u8], used: usize, k: u32, t: u32) -> Found
+    requires { ⌜ (16 * used ≤ length (now slice)) × (runs isData (sectors 0 (now slice) 0 used) ≡ true) ⌝ }
+    ensures { λ r. ⌜ r ≡ standIn k t (sectors 0 (now (slice .entry)) 0 used) Found.Nothing ⌝ }
+{
+    let mut x = k;
+    let stands = loop {
+        let found = least(slice, used, x, t);
+        let Found::Hit(e) = found else {
+            break Found::Nothing;
         };
-        if picks::follows(last, e) {
-            i += 1;
-            let lower = takes(slice, count, i, k, t, low, e);
-            best = bucket::picks::chosen(lower, i, best);
-            low = picks::lowest(lower, e.key, low);
-            last = e.stamp;
-        } else {
-            break Found::Damage;
+        if e.kind == 1 {
+            break Found::Hit(e);
         }
+        x = next::picks::key_of(e);
     };
-    found
+    stands
 }
 
 fn told(found: Found) -> Answer
@@ -232,9 +201,9 @@ fn told(found: Found) -> Answer
 pub fn next(slice: &[u8], bib: u32, at: u32) -> Answer
     ensures { λ r. ⌜ r ≡ journalNext (now (slice .entry)) bib at ⌝ }
 {
-    let len = slice.len();
-    if len % 16 != 0 {
+    let reading = read(slice, bib, at);
+    let Reading::Sound(pass) = reading else {
         return walk::refusal(1);
-    }
-    told(find_next(slice, len / 16, bib, at))
+    };
+    told(standing(slice, pass.used, bib, at))
 }

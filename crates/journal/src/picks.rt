@@ -4,7 +4,7 @@ ghost use Prim.Native.Nat.{_≤_};
 ghost use mathlib.Core.Bool.{not};
 ghost use lib.Dec.{eqb};
 ghost use Rattle.rules.specs.Plain.{if, _&_};
-ghost use Rattle.journal.specs.Passes.{follows, postFound, objection, wanted};
+ghost use Rattle.journal.specs.Passes.{follows, postFound, objection, lower};
 use crate::Pass;
 use rules::Entry;
 use scan::Found;
@@ -60,15 +60,13 @@ pub fn objection(e: Entry, pass: Pass, count: usize) -> u32
     0
 }
 
-// Whether the entry is a post as of t, its bib above k and not above the lowest so far.
-pub fn wanted(k: u32, t: u32, low: u32, e: Entry) -> bool
-    ensures { λ r. ⌜ r ≡ wanted k t low e ⌝ }
+// Whether the entry is stamped t or earlier, its bib above x and not above the lowest so far.
+pub fn lower(x: u32, t: u32, low: u32, e: Entry) -> bool
+    ensures { λ r. ⌜ r ≡ lower x t low e ⌝ }
 {
-    if e.kind == 1 {
-        if e.stamp <= t {
-            if k < e.key {
-                return e.key <= low;
-            }
+    if e.stamp <= t {
+        if x < e.key {
+            return e.key <= low;
         }
     }
     false

@@ -10,7 +10,7 @@ ghost use Rattle.scan.specs.Next.{pickUp, weigh, runs, standIn, sectorsOf, legO
 ghost use Rattle.bucket.specs.Shapes.{Shape};
 
 mod asks;
-mod picks;
+pub mod picks;
 
 use rules::Answer;
 use rules::Entry;
