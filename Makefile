@@ -8,7 +8,7 @@ ARCHIVE := target/staticlib/libcard.a
 BENCH := target/bin/bench
 SOURCES := crates.txt $(shell find crates -name '*.rt' -o -name '*.antt')
 
-# The sample session through the bench program, each line with its answer.
+# The sample sessions through the bench program, each line with its answer.
 run: $(BENCH)
 	@scripts/run-sample
 

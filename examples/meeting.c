@@ -67,8 +67,21 @@ static struct card_state state(struct file file) {
 }
 
 static void post(struct file file, uint32_t bib, uint32_t at, uint32_t time) {
-    struct card_answer answer = card_post(file.card, file.len, bib, at, time);
+    struct card_answer answer = card_post(file.card, file.len, bib, at, CARD_STATUS_TIMED, time);
     printf("post bib %u at %u, time %u: %s\n", bib, at, time, card_text(answer.code));
+}
+
+/* What a panel would show for a result without a time. */
+static const char *words(uint32_t status) {
+    return status == CARD_STATUS_DID_NOT_FINISH ? "did not finish"
+         : status == CARD_STATUS_DISQUALIFIED   ? "disqualified"
+                                                : "did not start";
+}
+
+/* A result that stands like a time, but has none. */
+static void post_without_time(struct file file, uint32_t bib, uint32_t at, uint32_t status) {
+    struct card_answer answer = card_post(file.card, file.len, bib, at, status, 0);
+    printf("post bib %u at %u, %s: %s\n", bib, at, words(status), card_text(answer.code));
 }
 
 static void strike(struct file file, uint32_t bib, uint32_t at) {
@@ -83,6 +96,8 @@ static void look(struct file file, uint32_t bib, uint32_t at) {
         printf("%s\n", card_text(answer.code));
     else if (answer.at == 0)
         printf("nothing stands (%u buckets read)\n", answer.reads);
+    else if (answer.status != CARD_STATUS_TIMED)
+        printf("%s, posted at %u (%u buckets read)\n", words(answer.status), answer.at, answer.reads);
     else
         printf("time %u, posted at %u (%u buckets read)\n", answer.time, answer.at, answer.reads);
 }
@@ -159,7 +174,8 @@ static void put_number(uint8_t *bytes, uint32_t number) {
 /* The line as a request of card_batch. */
 static void put_request(uint8_t *request, struct line line) {
     request[0] = line.kind;
-    request[1] = request[2] = request[3] = 0;
+    request[1] = CARD_STATUS_TIMED;
+    request[2] = request[3] = 0;
     put_number(request + 4, line.bib);
     put_number(request + 8, line.at);
     put_number(request + 12, line.time);
@@ -216,6 +232,9 @@ static void season(struct file file) {
     post(fresh, 22, at, 57850);
     post(fresh, 22, at + 1, 57850);
     look(fresh, 22, at + 1);
+    post_without_time(fresh, 21, at + 2, CARD_STATUS_DISQUALIFIED);
+    look(fresh, 21, at + 1);
+    look(fresh, 21, at + 2);
 }
 
 /* The last heat, its clock from `at` on. */

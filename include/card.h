@@ -1,6 +1,6 @@
 /* Race results on a write-once card: the calls of libcard.a.
  *
- * A card is `len` bytes at `card`. It keeps, for each bib number, every time that was posted and
+ * A card is `len` bytes at `card`. It keeps, for each bib number, every result that was posted and
  * every strike, each under a clock stamp, and never changes a byte that it has written. So what
  * stands for a bib can be asked as of any past stamp. docs/FORMAT.md says what each byte means.
  *
@@ -102,7 +102,7 @@ extern "C" {
 #define CARD_NOW UINT32_C(4294967295)
 
 /* Bytes of stack that suffice for any call: see Stack above. */
-#define CARD_STACK_OURS 8192
+#define CARD_STACK_OURS 10240
 #define CARD_STACK_ANY 524288
 
 /* The answer numbers. */
@@ -120,7 +120,17 @@ enum card_code {
     CARD_NOT_BLANK = 9,      /* a byte of the card to be made is nonzero */
     CARD_NO_REQUEST = 11,    /* a request of a batch is not laid out as a post or a strike */
     CARD_UNPAIRED = 12,      /* a batch's requests are not whole, or not as many as its answers */
-    CARD_TOO_EARLY = 13      /* the stamp asked about is before the card's beginning */
+    CARD_TOO_EARLY = 13,     /* the stamp asked about is before the card's beginning */
+    CARD_NO_STATUS = 14      /* a status above 3, or a time beside a status other than 0 */
+};
+
+/* What a result says beside its time. Each of them stands until it is corrected or struck. The time
+ * is 0 unless the status is CARD_STATUS_TIMED. */
+enum card_status {
+    CARD_STATUS_TIMED = 0,
+    CARD_STATUS_DID_NOT_FINISH = 1,
+    CARD_STATUS_DISQUALIFIED = 2,
+    CARD_STATUS_DID_NOT_START = 3
 };
 
 /* What a request of card_batch asks for: its byte 0. */
@@ -158,6 +168,8 @@ static inline const char *card_text(uint32_t code) {
         return "the requests are not whole or not as many as the answers";
     case CARD_TOO_EARLY:
         return "the stamp asked about is before the card's beginning";
+    case CARD_NO_STATUS:
+        return "the status is none, or has a time beside it";
     default:
         return "no answer of the card";
     }
@@ -165,11 +177,12 @@ static inline const char *card_text(uint32_t code) {
 
 /* The answer of a call on a card or on a journal. */
 struct card_answer {
-    uint32_t code;  /* an enum card_code */
-    uint32_t bib;   /* the record's bib */
-    uint32_t at;    /* its stamp; 0 is no record */
-    uint32_t time;  /* its time in thousandths of a second */
-    uint32_t reads; /* buckets read, in card_look only; a journal has none */
+    uint32_t code;   /* an enum card_code */
+    uint32_t bib;    /* the record's bib */
+    uint32_t at;     /* its stamp; 0 is no record */
+    uint32_t status; /* an enum card_status */
+    uint32_t time;   /* its time in thousandths of a second */
+    uint32_t reads;  /* buckets read, in card_look only; a journal has none */
 };
 
 /* The answer of card_records. */
@@ -208,24 +221,27 @@ struct card_digits {
 struct card_answer card_format(uint8_t *card, size_t len, uint32_t buckets, uint32_t sectors,
                                uint32_t td, uint32_t ti);
 
-/* Writes a time for `bib`: a first one or a correction.
- * Refused: 1, head or length breaks the layout; 2, bib 0; 3, `at` not above the largest stamp of
- * the card's buckets; 4, damage met on the log or path; 6, more fresh buckets needed than remain,
+/* Writes a result for `bib`: a first one or a correction. `status` is an enum card_status, and `time`
+ * is 0 unless it is CARD_STATUS_TIMED.
+ * Refused: 1, head or length breaks the layout; 2, bib 0; 14, `status` above 3, or a time beside a
+ * status of 1 to 3; 3, `at` not above the largest stamp of the card's buckets; 4, damage met on the log or path; 6, more fresh buckets needed than remain,
  * or no blank log sector for a new root.
  * Leaves the entry in the first blank sector of the bib's data bucket, or fresh buckets and the
  * entries leading to them where that bucket was full. Only blank sectors are written. The answer
  * is all zeros. */
-struct card_answer card_post(uint8_t *card, size_t len, uint32_t bib, uint32_t at, uint32_t time);
+struct card_answer card_post(uint8_t *card, size_t len, uint32_t bib, uint32_t at, uint32_t status,
+                             uint32_t time);
 
 /* Erases what stands for `bib`, for questions as of `at` and later.
- * Refused: 1, 2, 3, 4 as card_post; 5, nothing stands; 6 as card_post.
+ * Refused: 1, 2, 3, 4 as card_post; 5, nothing stands; 6 as card_post. There is no 14.
  * Leaves what card_post would, with a strike in the place of the post. The answer is all zeros. */
 struct card_answer card_strike(uint8_t *card, size_t len, uint32_t bib, uint32_t at);
 
 /* Makes many posts and strikes in one call: a heat sheet, or a morning's results.
  * `requests` are sectors of 16 bytes, one behind the other. Byte 0 is the kind, 1 for a post and 2
- * for a strike; bytes 1 to 3 are 0; bib, stamp and value follow, each of 4 bytes, low first, from
- * bytes 4, 8 and 12 on. The value is the time of a post, and 0 in a strike. `answers` has one byte
+ * for a strike; byte 1 is the status of a post, and 0 in a strike; bytes 2 and 3 are 0; bib, stamp
+ * and value follow, each of 4 bytes, low first, from bytes 4, 8 and 12 on. The value is the time of a
+ * post, and 0 in a strike. `answers` has one byte
  * for each request, which becomes its answer number. Neither is null, all their bytes can be read
  * and those of `answers` written, and no byte is lent twice: card, requests and answers do not
  * overlap.
@@ -238,21 +254,21 @@ struct card_answer card_strike(uint8_t *card, size_t len, uint32_t bib, uint32_t
  * `answers_len` is not the number of requests; then nothing is written, no answer either. Otherwise
  * it answers 0, also where there is no request, and also where every request is refused.
  * A request is refused: 1, head or length breaks the layout, so that every request is answered 1;
- * 11, its kind is not 1 or 2, one of its bytes 1 to 3 is not 0, or it is a strike with a value; then
- * 2, 3, 4, 5, 6 as card_post and card_strike. */
+ * 11, its kind is not 1 or 2, its byte 2 or 3 is not 0, or it is a strike with a status or a value;
+ * then 2, 14, 3, 4, 5, 6 as card_post and card_strike. */
 uint32_t card_batch(uint8_t *card, size_t len, const uint8_t *requests, size_t requests_len,
                     uint8_t *answers, size_t answers_len);
 
 /* What stands for `bib` as of stamp `at`.
- * Found: bib, stamp and time of the record, and the number of buckets read. None: bib, stamp 0,
- * time 0, and the number of buckets read.
+ * Found: bib, stamp, status and time of the record, and the number of buckets read. None: bib, stamp
+ * 0, status 0, time 0, and the number of buckets read.
  * Refused: 1, head or length breaks the layout; 2, bib 0; 13, `at` before the card's beginning; 4,
  * damage met on the log or path.
  * Leaves the card as it was. */
 struct card_answer card_look(const uint8_t *card, size_t len, uint32_t bib, uint32_t at);
 
 /* The record of the smallest bib above `bib` that stands as of stamp `at`; `bib` may be 0.
- * Found: bib, stamp and time of the record, reads 0. The end: all zeros.
+ * Found: bib, stamp, status and time of the record, reads 0. The end: all zeros.
  * Refused: 1, head or length breaks the layout; 13, `at` before the card's beginning; 4, damage met
  * on the log or path.
  * Leaves the card as it was. */
@@ -260,7 +276,7 @@ struct card_answer card_next(const uint8_t *card, size_t len, uint32_t bib, uint
 
 /* The records that card_next gives one after the other above `bib`, laid down at `out` as post
  * sectors of 16 bytes, as many as there are and as fit whole into its `room` bytes. Byte 0 is 1,
- * bytes 1 to 3 are 0, and bib, stamp and time follow, each of 4 bytes, low first. The bytes behind
+ * byte 1 the status, bytes 2 and 3 are 0, and bib, stamp and time follow, each of 4 bytes, low first. The bytes behind
  * the last record stay as they were. `out` is not null, its bytes can be read and written, and none
  * of them is the card's.
  * Refused: 1, head or length breaks the layout; 13, `at` before the card's beginning; both also where
@@ -307,7 +323,8 @@ struct card_state card_state(const uint8_t *card, size_t len);
 
 /* The digits of a time in thousandths on a panel field of 4 (seconds, hundredths), 5 (a minute
  * digit before them) or 6 (two) places. A time that is no whole hundredth goes to the next longer
- * one: 58901 is shown as 58.91. Leading zeros are shown.
+ * one: 58901 is shown as 58.91. Leading zeros are shown. What a panel shows for a result without a
+ * time is for its program to say: of the time 0 beside it these are only zeros.
  * Refused: 7, field not 4, 5 or 6, or the time, so rounded, too long for it: above 59.99, 9:59.99,
  * 99:59.99. */
 struct card_digits card_digits(uint32_t time, uint32_t field);
@@ -322,26 +339,27 @@ struct card_digits card_digits(uint32_t time, uint32_t field);
  * From a blank slice and a card just formatted, the same calls are answered alike, but for the reads,
  * until one of the two has answered 6. No call on a journal answers 4 or 13. */
 
-/* Writes a time for `bib`: a first one or a correction.
- * Refused: 1, the slice is no journal; 2, bib 0; 3, `at` not above the last stamp, or 0; 6, no blank
- * sector.
+/* Writes a result for `bib`: a first one or a correction, with status and time as in card_post.
+ * Refused: 1, the slice is no journal; 2, bib 0; 14, `status` above 3, or a time beside a status of
+ * 1 to 3; 3, `at` not above the last stamp, or 0; 6, no blank sector.
  * Leaves the entry in the first blank sector, and every other byte as it was. The answer is all
  * zeros. */
-struct card_answer journal_post(uint8_t *journal, size_t len, uint32_t bib, uint32_t at, uint32_t time);
+struct card_answer journal_post(uint8_t *journal, size_t len, uint32_t bib, uint32_t at, uint32_t status,
+                                uint32_t time);
 
 /* Erases what stands for `bib`, for questions as of `at` and later.
- * Refused: 1, 2, 3 as journal_post; 5, nothing stands; 6 as journal_post.
+ * Refused: 1, 2, 3 as journal_post; 5, nothing stands; 6 as journal_post. There is no 14.
  * Leaves what journal_post would, with a strike in the place of the post. The answer is all zeros. */
 struct card_answer journal_strike(uint8_t *journal, size_t len, uint32_t bib, uint32_t at);
 
 /* What stands for `bib` as of stamp `at`.
- * Found: bib, stamp and time of the record. None: bib, stamp 0, time 0. Reads is 0.
+ * Found: bib, stamp, status and time of the record. None: bib, and the rest 0. Reads is 0.
  * Refused: 1, the slice is no journal; 2, bib 0.
  * Leaves the journal as it was. */
 struct card_answer journal_look(const uint8_t *journal, size_t len, uint32_t bib, uint32_t at);
 
 /* The record of the smallest bib above `bib` that stands as of stamp `at`; `bib` may be 0.
- * Found: bib, stamp and time of the record. The end: all zeros. Reads is 0.
+ * Found: bib, stamp, status and time of the record. The end: all zeros. Reads is 0.
  * Refused: 1, the slice is no journal.
  * Leaves the journal as it was. */
 struct card_answer journal_next(const uint8_t *journal, size_t len, uint32_t bib, uint32_t at);

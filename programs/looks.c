@@ -31,7 +31,7 @@ int main(int argc, char **argv) {
         /* bibs are even, so that the odd ones are looked for in vain */
         uint32_t bib = stamp % 2 == 1 ? posted[random_below(stamp)] : 2 + 2 * random_below(100000);
         posted[stamp++] = bib;
-        if (card_post(card, len, bib, stamp, 61230).code != CARD_OK)
+        if (card_post(card, len, bib, stamp, CARD_STATUS_TIMED, 61230).code != CARD_OK)
             return 1;
     }
     for (i = 0; i < LOOKS; i++) {

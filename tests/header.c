@@ -17,9 +17,10 @@ static void check(int holds, const char *fact) {
 }
 
 static void layout_of_the_structs(void) {
-    CHECK(sizeof(struct card_answer) == 20);
+    CHECK(sizeof(struct card_answer) == 24);
     CHECK(offsetof(struct card_answer, bib) == 4 && offsetof(struct card_answer, at) == 8);
-    CHECK(offsetof(struct card_answer, time) == 12 && offsetof(struct card_answer, reads) == 16);
+    CHECK(offsetof(struct card_answer, status) == 12 && offsetof(struct card_answer, time) == 16);
+    CHECK(offsetof(struct card_answer, reads) == 20);
     CHECK(sizeof(struct card_tally) == 16 && offsetof(struct card_tally, count) == 8);
     CHECK(sizeof(struct card_state) == 32 && offsetof(struct card_state, buckets) == 4);
     CHECK(offsetof(struct card_state, sectors) == 8 && offsetof(struct card_state, td) == 12);
@@ -67,12 +68,12 @@ static void answer_numbers(void) {
     CHECK(card_format(card, len, 2, 4, 0, 0).code == CARD_OK && CARD_OK == 0);
     CHECK(card_format(card, len, 2, 4, 0, 0).code == CARD_NOT_BLANK && CARD_NOT_BLANK == 9);
     CHECK(card_look(card, len, 0, 1).code == CARD_NO_BIB && CARD_NO_BIB == 2);
-    CHECK(card_post(card, len, 1, 0, 5).code == CARD_STAMP && CARD_STAMP == 3);
+    CHECK(card_post(card, len, 1, 0, 0, 5).code == CARD_STAMP && CARD_STAMP == 3);
     CHECK(card_strike(card, len, 1, 1).code == CARD_NOTHING_STANDS && CARD_NOTHING_STANDS == 5);
-    CHECK(card_post(card, len, 1, 1, 5).code == CARD_OK);
-    CHECK(card_post(card, len, 1, 2, 5).code == CARD_OK);
-    CHECK(card_post(card, len, 1, CARD_NOW, 5).code == CARD_OK);
-    CHECK(card_post(card, len, 1, CARD_NOW, 5).code == CARD_STAMP);
+    CHECK(card_post(card, len, 1, 1, 0, 5).code == CARD_OK);
+    CHECK(card_post(card, len, 1, 2, 0, 5).code == CARD_OK);
+    CHECK(card_post(card, len, 1, CARD_NOW, 0, 5).code == CARD_OK);
+    CHECK(card_post(card, len, 1, CARD_NOW, 0, 5).code == CARD_STAMP);
     CHECK(card_digits(0, 7).code == CARD_PANEL && CARD_PANEL == 7);
     card[16] = 5;
     CHECK(card_next(card, len, 0, CARD_NOW).code == CARD_DAMAGE && CARD_DAMAGE == 4);
@@ -83,8 +84,8 @@ static void a_full_card(void) {
     uint32_t at;
     CHECK(card_format(card, sizeof card, 2, 4, 0, 0).code == CARD_OK);
     for (at = 1; at <= 3; at++)
-        CHECK(card_post(card, sizeof card, 1, at, 5).code == CARD_OK);
-    CHECK(card_post(card, sizeof card, 1, at, 5).code == CARD_FULL && CARD_FULL == 6);
+        CHECK(card_post(card, sizeof card, 1, at, 0, 5).code == CARD_OK);
+    CHECK(card_post(card, sizeof card, 1, at, 0, 5).code == CARD_FULL && CARD_FULL == 6);
 }
 
 /* A request in the layout that the header words: kind, three zeros, bib, stamp, value, low bytes first. */
@@ -132,13 +133,13 @@ static void seven(uint8_t *card, size_t len) {
     uint32_t at;
     CHECK(card_format(card, len, 16, 4, 0, 0).code == CARD_OK);
     for (at = 1; at <= 7; at++)
-        CHECK(card_post(card, len, 10 * at, at, 100 + at).code == CARD_OK);
+        CHECK(card_post(card, len, 10 * at, at, 0, 100 + at).code == CARD_OK);
 }
 
 /* Seven records and one entry more, three to a bucket: three buckets and one over them. */
 static void seasons(void) {
     static const struct card_state begun = {CARD_OK, 4, 4, 2, 4, 7, 7, 4};
-    static const struct card_answer found = {CARD_OK, 70, 7, 107, 2}, early = {CARD_TOO_EARLY, 0, 0, 0, 0};
+    static const struct card_answer found = {CARD_OK, 70, 7, 0, 107, 2}, early = {CARD_TOO_EARLY, 0, 0, 0, 0, 0};
     uint8_t card[CARD_BYTES(16, 4)] = {0}, target[CARD_BYTES(4, 4)] = {0}, page[CARD_SECTOR_BYTES];
     struct card_state state;
     struct card_answer answer;
@@ -155,8 +156,8 @@ static void seasons(void) {
     CHECK(card_next(target, sizeof target, 0, 7).bib == 10);
     CHECK(card_records(target, sizeof target, 0, 6, page, 0).code == CARD_TOO_EARLY);
     CHECK(card_records(target, sizeof target, 60, 7, page, sizeof page).count == 1);
-    CHECK(card_post(target, sizeof target, 70, 7, 1).code == CARD_STAMP);
-    CHECK(card_post(target, sizeof target, 70, 8, 1).code == CARD_OK);
+    CHECK(card_post(target, sizeof target, 70, 7, 0, 1).code == CARD_STAMP);
+    CHECK(card_post(target, sizeof target, 70, 8, 0, 1).code == CARD_OK);
 }
 
 /* The refusals of card_season in the header's order, each where those behind it would be given too. */
@@ -197,19 +198,19 @@ static void states(void) {
     struct card_state state = card_state(card, sizeof card);
     CHECK(memcmp(&state, &blank, sizeof state) == 0);
     CHECK(card_format(card, sizeof card, 5, 6, 3, 4).code == CARD_OK);
-    CHECK(card_post(card, sizeof card, 9, 77, 1).code == CARD_OK);
+    CHECK(card_post(card, sizeof card, 9, 77, 0, 1).code == CARD_OK);
     state = card_state(card, sizeof card);
     CHECK(memcmp(&state, &left, sizeof state) == 0);
 }
 
 /* A journal of three sectors, in the layout that the header words, from blank to full. */
 static void journals(void) {
-    static const struct card_answer accepted = {CARD_OK, 0, 0, 0, 0};
-    static const struct card_answer found = {CARD_OK, 8, 10, 61, 0}, none = {CARD_OK, 8, 0, 0, 0};
+    static const struct card_answer accepted = {CARD_OK, 0, 0, 0, 0, 0};
+    static const struct card_answer found = {CARD_OK, 8, 10, 0, 61, 0}, none = {CARD_OK, 8, 0, 0, 0, 0};
     uint8_t journal[3 * CARD_SECTOR_BYTES] = {0}, expected[sizeof journal] = {0};
-    struct card_answer answer = journal_post(journal, sizeof journal, 8, 10, 61);
+    struct card_answer answer = journal_post(journal, sizeof journal, 8, 10, 0, 61);
     CHECK(memcmp(&answer, &accepted, sizeof answer) == 0);
-    CHECK(journal_post(journal, sizeof journal, 3, 20, 58).code == CARD_OK);
+    CHECK(journal_post(journal, sizeof journal, 3, 20, 0, 58).code == CARD_OK);
     answer = journal_strike(journal, sizeof journal, 8, 30);
     CHECK(memcmp(&answer, &accepted, sizeof answer) == 0);
     request(expected, CARD_KIND_POST, 8, 10, 61);
@@ -229,7 +230,7 @@ static void journals(void) {
 
 /* The refusals of the journal's calls in the header's order, each where those behind it would be given too. */
 static void refused_journals(void) {
-    static const struct card_answer refused = {CARD_LAYOUT, 0, 0, 0, 0};
+    static const struct card_answer refused = {CARD_LAYOUT, 0, 0, 0, 0, 0};
     uint8_t journal[CARD_SECTOR_BYTES] = {0}, before[sizeof journal];
     struct card_answer answer;
     request(journal, CARD_KIND_POST, 8, 10, 61);
@@ -240,16 +241,54 @@ static void refused_journals(void) {
     CHECK(journal_strike(journal, sizeof journal, 7, 10).code == CARD_STAMP);
     CHECK(journal_strike(journal, sizeof journal, 7, 11).code == CARD_NOTHING_STANDS);
     CHECK(journal_strike(journal, sizeof journal, 8, 11).code == CARD_FULL);
-    CHECK(journal_post(journal, sizeof journal, 0, 10, 1).code == CARD_NO_BIB);
-    CHECK(journal_post(journal, sizeof journal, 7, 10, 1).code == CARD_STAMP);
-    CHECK(journal_post(journal, sizeof journal, 7, 11, 1).code == CARD_FULL);
-    CHECK(journal_post(journal, 0, 7, 11, 1).code == CARD_FULL);
+    CHECK(journal_post(journal, sizeof journal, 0, 10, 0, 1).code == CARD_NO_BIB);
+    CHECK(journal_post(journal, sizeof journal, 7, 10, 0, 1).code == CARD_STAMP);
+    CHECK(journal_post(journal, sizeof journal, 7, 11, 0, 1).code == CARD_FULL);
+    CHECK(journal_post(journal, 0, 7, 11, 0, 1).code == CARD_FULL);
     CHECK(journal_look(journal, sizeof journal - 1, 0, 10).code == CARD_LAYOUT);
     CHECK(journal_look(journal, sizeof journal, 0, 10).code == CARD_NO_BIB);
     CHECK(memcmp(journal, before, sizeof journal) == 0);
     journal[0] = 3;
     CHECK(journal_next(journal, sizeof journal, 0, 10).code == CARD_LAYOUT);
-    CHECK(journal_post(journal, sizeof journal, 7, 11, 1).code == CARD_LAYOUT);
+    CHECK(journal_post(journal, sizeof journal, 7, 11, 0, 1).code == CARD_LAYOUT);
+}
+
+/* Each status as it is posted, asked, laid down in a row and stored, and 14 in its place among the refusals. */
+static void statuses(void) {
+    uint8_t card[CARD_BYTES(16, 4)] = {0}, journal[4 * CARD_SECTOR_BYTES] = {0}, page[4 * CARD_SECTOR_BYTES];
+    uint8_t requests[3 * CARD_SECTOR_BYTES], answers[3] = {0};
+    struct card_answer answer;
+    uint32_t status;
+    CHECK(CARD_STATUS_TIMED == 0 && CARD_STATUS_DID_NOT_FINISH == 1);
+    CHECK(CARD_STATUS_DISQUALIFIED == 2 && CARD_STATUS_DID_NOT_START == 3 && CARD_NO_STATUS == 14);
+    CHECK(card_format(card, sizeof card, 16, 4, 0, 0).code == CARD_OK);
+    for (status = 0; status <= 3; status++) {
+        CHECK(card_post(card, sizeof card, 5 + status, 10 + status, status, 0).code == CARD_OK);
+        CHECK(journal_post(journal, sizeof journal, 5 + status, 10 + status, status, 0).code == CARD_OK);
+        answer = card_look(card, sizeof card, 5 + status, CARD_NOW);
+        CHECK(answer.at == 10 + status && answer.status == status && answer.time == 0);
+        answer = journal_next(journal, sizeof journal, 4 + status, CARD_NOW);
+        CHECK(answer.at == 10 + status && answer.status == status && answer.time == 0);
+        CHECK(journal[CARD_SECTOR_BYTES * status] == 1 && journal[CARD_SECTOR_BYTES * status + 1] == status);
+    }
+    CHECK(card_records(card, sizeof card, 0, CARD_NOW, page, sizeof page).count == 4);
+    CHECK(memcmp(page, journal, sizeof page) == 0);
+    CHECK(card_post(card, sizeof card, 0, 1, 4, 0).code == CARD_NO_BIB);
+    CHECK(card_post(card, sizeof card, 5, 1, 4, 0).code == CARD_NO_STATUS);
+    CHECK(card_post(card, sizeof card, 5, 1, 1, 1).code == CARD_NO_STATUS);
+    CHECK(card_post(card, sizeof card, 5, 1, 1, 0).code == CARD_STAMP);
+    CHECK(journal_post(journal, sizeof journal, 0, 1, 4, 0).code == CARD_NO_BIB);
+    CHECK(journal_post(journal, sizeof journal, 5, 1, 4, 0).code == CARD_NO_STATUS);
+    CHECK(journal_post(journal, sizeof journal, 5, 1, 1, 0).code == CARD_STAMP);
+    request(requests, CARD_KIND_POST, 5, 20, 0);
+    request(requests + 16, CARD_KIND_POST, 6, 21, 0);
+    request(requests + 32, CARD_KIND_STRIKE, 6, 22, 0);
+    requests[1] = CARD_STATUS_DISQUALIFIED;
+    requests[17] = 4;
+    requests[33] = 1;
+    CHECK(card_batch(card, sizeof card, requests, sizeof requests, answers, sizeof answers) == CARD_OK);
+    CHECK(answers[0] == CARD_OK && answers[1] == CARD_NO_STATUS && answers[2] == CARD_NO_REQUEST);
+    CHECK(card_look(card, sizeof card, 5, 20).status == CARD_STATUS_DISQUALIFIED);
 }
 
 static void texts(void) {
@@ -268,6 +307,7 @@ static void texts(void) {
         "the request is not laid out as a post or a strike",
         "the requests are not whole or not as many as the answers",
         "the stamp asked about is before the card's beginning",
+        "the status is none, or has a time beside it",
         "no answer of the card",
     };
     uint32_t code;
@@ -294,6 +334,7 @@ int main(void) {
     states();
     journals();
     refused_journals();
+    statuses();
     texts();
     version();
     return wrong;

@@ -38,7 +38,8 @@ fn entries(many: u32, random: &mut Random) -> Vec<Call> {
         }
         let bib = random.within(1, many.div_ceil(2));
         let strike = random.chance(5);
-        let call = if strike { Call::Strike { bib, at } } else { Call::Post { bib, at, time: at } };
+        let call =
+            if strike { Call::Strike { bib, at } } else { Call::Post { bib, at, status: 0, time: at } };
         if call.run(&LIBRARY, &mut card).code == 0 {
             accepted.push(call);
         }
@@ -162,7 +163,8 @@ fn lines(slices: &Slices, entries: &[Call], many: u32, random: &mut Random) {
     }
     if picked("post") {
         compare(slices, many, "post", || {
-            let post = |i| Call::Post { bib: random.within(1, bibs), at: last + 1 + i, time: 61_230 };
+            let post =
+                |i| Call::Post { bib: random.within(1, bibs), at: last + 1 + i, status: 0, time: 61_230 };
             (0..POSTS as u32).map(post).collect()
         });
     }

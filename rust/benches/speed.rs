@@ -31,7 +31,7 @@ fn timed(side: &Calls, card: &mut [u8], calls: &[Call]) -> Took {
     let mut sum = 0u64;
     for &call in calls {
         let answer = black_box(call).run(side, black_box(card));
-        let said = [answer.code, answer.bib, answer.at, answer.time, answer.reads];
+        let said = [answer.code, answer.bib, answer.at, answer.status, answer.time, answer.reads];
         sum = said.iter().fold(sum, |sum, &number| sum.wrapping_mul(31).wrapping_add(number.into()));
     }
     Took { each: start.elapsed().as_nanos() as f64 / calls.len() as f64, sum }
@@ -93,7 +93,7 @@ fn writes(name: &str, grown: &Grown, random: &mut Random, many: usize) {
     let (bibs, last) = (&grown.bibs, grown.stamp);
     compare(name, "post", &grown.card, || {
         let bib = |random: &mut Random| random.of(bibs) + random.within(0, 1);
-        several(many, |i| Call::Post { bib: bib(random), at: last + 1 + i as u32, time: 61_230 })
+        several(many, |i| Call::Post { bib: bib(random), at: last + 1 + i as u32, status: 0, time: 61_230 })
     });
     compare(name, "strike", &grown.card, || {
         let from = random.index(bibs.len() - many);

@@ -50,7 +50,7 @@ fn season_row(what: &str, card: &[u8], geometry: Geometry) {
 
 /// A post that rewrites at least a data bucket: the first bib from 1 whose post takes a fresh bucket.
 fn splitting(grown: &Grown) -> Call {
-    let post = |bib| Call::Post { bib, at: grown.stamp + 1, time: 1 };
+    let post = |bib| Call::Post { bib, at: grown.stamp + 1, status: 0, time: 1 };
     let changed = |call: &Call| {
         let mut copy = grown.card.clone();
         call.run(&MODEL, &mut copy);
@@ -68,25 +68,26 @@ fn main() {
     row("format", &vec![0; grown.card.len()], grown.geometry.format(), 0);
     row("look", &grown.card, Call::Look { bib, at }, 0);
     row("next", &grown.card, Call::Next { bib, at }, 0);
-    row("post", &grown.card, Call::Post { bib, at, time: 1 }, 0);
+    row("post", &grown.card, Call::Post { bib, at, status: 0, time: 1 }, 0);
     row("post that rewrites", &grown.card, splitting(&grown), 0);
     row("strike", &grown.card, Call::Strike { bib, at }, 0);
-    let posts: Vec<Call> = (0..100).map(|i| Call::Post { bib: 1 + 3 * i, at: at + i, time: 1 }).collect();
-    batch_row("batch of a post", &grown.card, &[Call::Post { bib, at, time: 1 }]);
+    let posts: Vec<Call> =
+        (0..100).map(|i| Call::Post { bib: 1 + 3 * i, at: at + i, status: 0, time: 1 }).collect();
+    batch_row("batch of a post", &grown.card, &[Call::Post { bib, at, status: 0, time: 1 }]);
     batch_row("batch of 100 posts, some of which rewrite", &grown.card, &posts);
     season_row("season", &grown.card, grown.geometry);
     println!("| digits | {} | {} |", stack::of_digits(LIBRARY), stack::of_digits(MODEL));
     let entries: Vec<_> = (1..=400).map(|bib| (1, bib, bib, 7)).collect();
     // above every stamp of the slice
     let (slice, now) = (journal(500, &entries), u32::MAX);
-    journal_row("journal: post", &slice, Call::Post { bib: 9, at: now, time: 1 });
+    journal_row("journal: post", &slice, Call::Post { bib: 9, at: now, status: 0, time: 1 });
     journal_row("journal: strike", &slice, Call::Strike { bib: 9, at: now });
     journal_row("journal: look", &slice, Call::Look { bib: 9, at: now });
     journal_row("journal: next", &slice, Call::Next { bib: 9, at: now });
     let levels = deep::card(2047, |_| 4, false);
     row("look, 2,047 index levels", &levels, Call::Look { bib: 1, at }, 0);
     season_row("season, 2,047 index levels", &levels, grown.geometry);
-    let rewriting = Call::Post { bib: 1, at, time: 1 };
+    let rewriting = Call::Post { bib: 1, at, status: 0, time: 1 };
     row("post that rewrites 2,048 buckets", &levels, rewriting, 0);
     batch_row("batch of that post", &levels, &[rewriting]);
 }

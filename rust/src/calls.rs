@@ -2,7 +2,7 @@
 
 use crate::numbers::{self, Answer};
 use crate::refusal::refused;
-use crate::{Answers, Look, Panel, Record, Records, Refusal, Shape, State};
+use crate::{Answers, Look, Panel, Record, Records, Refusal, Shape, State, Status};
 
 /// The answer of an accepted call, or the refusal.
 pub(crate) fn accepted(answer: Answer) -> Result<Answer, Refusal> {
@@ -26,24 +26,24 @@ pub fn format(card: &mut [u8], shape: Shape) -> Result<(), Refusal> {
     accepted(numbers::format(card, shape.buckets, shape.sectors, shape.td, shape.ti)).map(drop)
 }
 
-/// Writes a time for a bib: a first one or a correction. The stamp has to be above every stamp on
-/// the card.
+/// Writes a result for a bib: a first one or a correction. The stamp has to be above every stamp on
+/// the card. The time is 0 unless the status is [`Status::Timed`].
 ///
-/// Refused as [`Refusal::Layout`], [`Refusal::NoBib`], [`Refusal::Stamp`], [`Refusal::Damage`] or
-/// [`Refusal::Full`], the first of these that holds.
+/// Refused as [`Refusal::Layout`], [`Refusal::NoBib`], [`Refusal::NoStatus`], [`Refusal::Stamp`],
+/// [`Refusal::Damage`] or [`Refusal::Full`], the first of these that holds.
 ///
 /// ```
-/// # use card::{Refusal, Shape};
+/// # use card::{Refusal, Shape, Status};
 /// # let mut bytes = vec![0; Shape::new(16, 4).bytes().unwrap()];
 /// # card::format(&mut bytes, Shape::new(16, 4))?;
-/// card::post(&mut bytes, 7, 100, 59_990)?;
-/// assert_eq!(card::post(&mut bytes, 7, 100, 59_980), Err(Refusal::Stamp));
-/// card::post(&mut bytes, 7, 101, 59_980)?;
-/// assert_eq!(card::look(&bytes, 7, 101)?.record.unwrap().time, 59_980);
+/// card::post(&mut bytes, 7, 100, Status::Timed, 59_990)?;
+/// assert_eq!(card::post(&mut bytes, 7, 100, Status::Timed, 59_980), Err(Refusal::Stamp));
+/// card::post(&mut bytes, 7, 101, Status::Timed, 59_980)?;
+/// assert_eq!(card::look(&bytes, 7, 101)?.record.unwrap().time, Some(59_980));
 /// # Ok::<(), Refusal>(())
 /// ```
-pub fn post(card: &mut [u8], bib: u32, at: u32, time: u32) -> Result<(), Refusal> {
-    accepted(numbers::post(card, bib, at, time)).map(drop)
+pub fn post(card: &mut [u8], bib: u32, at: u32, status: Status, time: u32) -> Result<(), Refusal> {
+    accepted(numbers::post(card, bib, at, status.number(), time)).map(drop)
 }
 
 /// Erases what stands for a bib. It is still there for questions as of an earlier stamp.
@@ -51,10 +51,10 @@ pub fn post(card: &mut [u8], bib: u32, at: u32, time: u32) -> Result<(), Refusal
 /// Refused as [`post`] is, and as [`Refusal::NothingStands`] ahead of [`Refusal::Full`].
 ///
 /// ```
-/// # use card::{Refusal, Shape};
+/// # use card::{Refusal, Shape, Status};
 /// # let mut bytes = vec![0; Shape::new(16, 4).bytes().unwrap()];
 /// # card::format(&mut bytes, Shape::new(16, 4))?;
-/// card::post(&mut bytes, 7, 100, 59_990)?;
+/// card::post(&mut bytes, 7, 100, Status::Timed, 59_990)?;
 /// card::strike(&mut bytes, 7, 101)?;
 /// assert_eq!(card::strike(&mut bytes, 7, 102), Err(Refusal::NothingStands));
 /// # Ok::<(), Refusal>(())
@@ -70,17 +70,17 @@ pub fn strike(card: &mut [u8], bib: u32, at: u32) -> Result<(), Refusal> {
 ///
 /// There is a byte of `answers` for each request, else the batch is refused as [`Refusal::Unpaired`] and no
 /// byte changes. Each request is answered by itself: as [`Refusal::Layout`], as [`Refusal::NoRequest`] where
-/// its kind is not 1 or 2, where bytes 1 to 3 are not zero or where a strike has a value, or as [`post`] and
-/// [`strike`] are, the first of these that holds.
+/// its kind is not 1 or 2, where byte 2 or 3 is not zero or where a strike has a status or a value, or as
+/// [`post`] and [`strike`] are, the first of these that holds.
 ///
 /// ```
-/// use card::{Refusal, Request, Shape};
+/// use card::{Refusal, Request, Shape, Status};
 ///
 /// let mut bytes = vec![0; Shape::new(16, 4).bytes().unwrap()];
 /// card::format(&mut bytes, Shape::new(16, 4))?;
 /// let sheet = [
-///     Request::Post { bib: 7, at: 100, time: 59_990 },
-///     Request::Post { bib: 5, at: 90, time: 58_120 }, // a stamp that runs backwards
+///     Request::Post { bib: 7, at: 100, status: Status::Timed, time: 59_990 },
+///     Request::Post { bib: 5, at: 90, status: Status::Timed, time: 58_120 }, // a stamp that runs backwards
 ///     Request::Strike { bib: 7, at: 110 },
 /// ];
 /// let mut numbers = [0; 3];
@@ -88,7 +88,7 @@ pub fn strike(card: &mut [u8], bib: u32, at: u32) -> Result<(), Refusal> {
 /// assert_eq!(answers.next(), Some(Ok(())));
 /// assert_eq!(answers.next(), Some(Err(Refusal::Stamp)));
 /// assert_eq!(answers.next(), Some(Ok(())));
-/// assert_eq!(card::look(&bytes, 7, 109)?.record.unwrap().time, 59_990);
+/// assert_eq!(card::look(&bytes, 7, 109)?.record.unwrap().time, Some(59_990));
 /// # Ok::<(), Refusal>(())
 /// ```
 pub fn batch<'a>(
@@ -107,11 +107,11 @@ pub fn batch<'a>(
 /// Refused as [`Refusal::Layout`], [`Refusal::NoBib`], [`Refusal::TooEarly`] or [`Refusal::Damage`].
 ///
 /// ```
-/// # use card::{Look, Record, Refusal, Shape};
+/// # use card::{Look, Record, Refusal, Shape, Status};
 /// # let mut bytes = vec![0; Shape::new(16, 4).bytes().unwrap()];
 /// # card::format(&mut bytes, Shape::new(16, 4))?;
-/// card::post(&mut bytes, 7, 100, 59_990)?;
-/// let record = Record { bib: 7, at: 100, time: 59_990 };
+/// card::post(&mut bytes, 7, 100, Status::Timed, 59_990)?;
+/// let record = Record { bib: 7, at: 100, status: Status::Timed, time: Some(59_990) };
 /// assert_eq!(card::look(&bytes, 7, 200), Ok(Look { record: Some(record), reads: 2 }));
 /// assert_eq!(card::look(&bytes, 7, 99), Ok(Look { record: None, reads: 2 }));
 /// # Ok::<(), Refusal>(())
@@ -127,10 +127,10 @@ pub fn look(card: &[u8], bib: u32, at: u32) -> Result<Look, Refusal> {
 /// Refused as [`Refusal::Layout`], [`Refusal::TooEarly`] or [`Refusal::Damage`].
 ///
 /// ```
-/// # use card::{Refusal, Shape};
+/// # use card::{Refusal, Shape, Status};
 /// # let mut bytes = vec![0; Shape::new(16, 4).bytes().unwrap()];
 /// # card::format(&mut bytes, Shape::new(16, 4))?;
-/// card::post(&mut bytes, 7, 100, 59_990)?;
+/// card::post(&mut bytes, 7, 100, Status::Timed, 59_990)?;
 /// assert_eq!(card::next(&bytes, 0, 100)?.unwrap().bib, 7);
 /// assert_eq!(card::next(&bytes, 7, 100)?, None);
 /// # Ok::<(), Refusal>(())
@@ -146,11 +146,11 @@ pub fn next(card: &[u8], bib: u32, at: u32) -> Result<Option<Record>, Refusal> {
 /// record; damage where it is met before `out` is full. Then `out` is as it was.
 ///
 /// ```
-/// # use card::{Refusal, Shape};
+/// # use card::{Refusal, Shape, Status};
 /// # let mut bytes = vec![0; Shape::new(16, 4).bytes().unwrap()];
 /// # card::format(&mut bytes, Shape::new(16, 4))?;
-/// card::post(&mut bytes, 7, 100, 59_990)?;
-/// card::post(&mut bytes, 5, 110, 58_120)?;
+/// card::post(&mut bytes, 7, 100, Status::Timed, 59_990)?;
+/// card::post(&mut bytes, 5, 110, Status::Timed, 58_120)?;
 /// let mut page = [0; 16 * 20];
 /// let records = card::records(&bytes, 0, 110, &mut page)?;
 /// assert_eq!(records.len(), 2);
@@ -179,11 +179,11 @@ pub fn records<'a>(card: &[u8], bib: u32, at: u32, out: &'a mut [u8]) -> Result<
 /// as it was.
 ///
 /// ```
-/// # use card::{Refusal, Shape};
+/// # use card::{Refusal, Shape, Status};
 /// # let mut bytes = vec![0; Shape::new(16, 4).bytes().unwrap()];
 /// # card::format(&mut bytes, Shape::new(16, 4))?;
-/// card::post(&mut bytes, 7, 100, 59_990)?;
-/// card::post(&mut bytes, 5, 110, 58_120)?;
+/// card::post(&mut bytes, 7, 100, Status::Timed, 59_990)?;
+/// card::post(&mut bytes, 5, 110, Status::Timed, 58_120)?;
 /// card::strike(&mut bytes, 5, 120)?;
 /// let shape = Shape::new(40, 8);
 /// let mut fresh = vec![0; shape.bytes().unwrap()];
@@ -192,8 +192,8 @@ pub fn records<'a>(card: &[u8], bib: u32, at: u32, out: &'a mut [u8]) -> Result<
 /// assert_eq!(card::look(&fresh, 5, 120)?.record, None);
 /// assert_eq!(card::look(&fresh, 5, 119), Err(Refusal::TooEarly));
 /// assert_eq!(card::state(&fresh)?.begin, 120);
-/// assert_eq!(card::post(&mut fresh, 5, 120, 58_110), Err(Refusal::Stamp));
-/// card::post(&mut fresh, 5, 121, 58_110)?;
+/// assert_eq!(card::post(&mut fresh, 5, 120, Status::Timed, 58_110), Err(Refusal::Stamp));
+/// card::post(&mut fresh, 5, 121, Status::Timed, 58_110)?;
 /// # Ok::<(), Refusal>(())
 /// ```
 pub fn season(card: &[u8], at: u32, target: &mut [u8], shape: Shape) -> Result<(), Refusal> {
@@ -208,10 +208,10 @@ pub fn season(card: &[u8], at: u32, target: &mut [u8], shape: Shape) -> Result<(
 /// Refused as [`Refusal::Layout`] alone: damage is not asked for.
 ///
 /// ```
-/// # use card::{Refusal, Shape};
+/// # use card::{Refusal, Shape, Status};
 /// # let mut bytes = vec![0; Shape::new(16, 4).bytes().unwrap()];
 /// # card::format(&mut bytes, Shape::new(16, 4))?;
-/// card::post(&mut bytes, 7, 100, 59_990)?;
+/// card::post(&mut bytes, 7, 100, Status::Timed, 59_990)?;
 /// card::strike(&mut bytes, 7, 110)?;
 /// let state = card::state(&bytes)?;
 /// assert_eq!((state.last, state.used), (110, 2));

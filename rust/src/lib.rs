@@ -8,19 +8,19 @@
 //! a controller without room for a card.
 //!
 //! ```
-//! use card::{Record, Shape};
+//! use card::{Record, Shape, Status};
 //!
 //! let shape = Shape::new(16, 4).td(3).ti(4);
 //! let mut bytes = vec![0; shape.bytes().unwrap()];
 //! card::format(&mut bytes, shape)?;
 //!
-//! card::post(&mut bytes, 8, 10, 61_230)?;
-//! card::post(&mut bytes, 3, 20, 58_900)?;
+//! card::post(&mut bytes, 8, 10, Status::Timed, 61_230)?;
+//! card::post(&mut bytes, 3, 20, Status::Timed, 58_900)?;
 //! card::strike(&mut bytes, 8, 50)?;
 //!
 //! // as of stamp 49 the time of bib 8 stands, as of 50 it does not
 //! let then = card::look(&bytes, 8, 49)?;
-//! assert_eq!(then.record, Some(Record { bib: 8, at: 10, time: 61_230 }));
+//! assert_eq!(then.record, Some(Record { bib: 8, at: 10, status: Status::Timed, time: Some(61_230) }));
 //! assert_eq!(card::look(&bytes, 8, 50)?.record, None);
 //!
 //! // all that stood as of stamp 49, by rising bib
@@ -44,6 +44,7 @@ mod request;
 mod scroll;
 mod shape;
 mod state;
+mod status;
 
 pub use answers::Answers;
 pub use calls::{batch, digits, format, look, next, post, records, season, state, strike};
@@ -55,6 +56,7 @@ pub use request::Request;
 pub use scroll::{scroll, scroll_above, Scroll};
 pub use shape::Shape;
 pub use state::State;
+pub use status::Status;
 
 /// The examples of the two README pages are run with the others.
 #[cfg(doctest)]

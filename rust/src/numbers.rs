@@ -3,7 +3,7 @@
 //! The functions of the crate's root say the same in Rust types; these are for a caller that
 //! stores or prints the numbers.
 
-/// A call's answer: its number, 0 or a refusal, and four values, all zero beside a refusal.
+/// A call's answer: its number, 0 or a refusal, and five values, all zero beside a refusal.
 #[repr(C)]
 #[derive(Clone, Copy, Debug, Default, PartialEq, Eq)]
 pub struct Answer {
@@ -13,6 +13,8 @@ pub struct Answer {
     pub bib: u32,
     /// Its stamp; 0 is no record.
     pub at: u32,
+    /// Its status: 0 timed, 1 did not finish, 2 disqualified, 3 did not start.
+    pub status: u32,
     /// Its time in thousandths of a second.
     pub time: u32,
     /// The buckets read, in [`look`] only; a journal has none.
@@ -62,7 +64,7 @@ pub struct Digits {
 }
 
 // as include/card.h has them
-const _: () = assert!(size_of::<Answer>() == 20 && size_of::<Digits>() == 12);
+const _: () = assert!(size_of::<Answer>() == 24 && size_of::<Digits>() == 12);
 const _: () = assert!(size_of::<Tally>() == 16 && size_of::<State>() == 32);
 
 mod library {
@@ -71,7 +73,7 @@ mod library {
     extern "C" {
         pub fn card_format(card: *mut u8, len: usize, buckets: u32, sectors: u32, td: u32, ti: u32)
             -> Answer;
-        pub fn card_post(card: *mut u8, len: usize, bib: u32, at: u32, time: u32) -> Answer;
+        pub fn card_post(card: *mut u8, len: usize, bib: u32, at: u32, status: u32, time: u32) -> Answer;
         pub fn card_strike(card: *mut u8, len: usize, bib: u32, at: u32) -> Answer;
         pub fn card_batch(
             card: *mut u8,
@@ -104,7 +106,14 @@ mod library {
         ) -> u32;
         pub fn card_state(card: *const u8, len: usize) -> State;
         pub fn card_digits(time: u32, field: u32) -> Digits;
-        pub fn journal_post(journal: *mut u8, len: usize, bib: u32, at: u32, time: u32) -> Answer;
+        pub fn journal_post(
+            journal: *mut u8,
+            len: usize,
+            bib: u32,
+            at: u32,
+            status: u32,
+            time: u32,
+        ) -> Answer;
         pub fn journal_strike(journal: *mut u8, len: usize, bib: u32, at: u32) -> Answer;
         pub fn journal_look(journal: *const u8, len: usize, bib: u32, at: u32) -> Answer;
         pub fn journal_next(journal: *const u8, len: usize, bib: u32, at: u32) -> Answer;
@@ -121,8 +130,8 @@ pub fn format(card: &mut [u8], buckets: u32, sectors: u32, td: u32, ti: u32) -> 
 }
 
 /// As [`crate::post`].
-pub fn post(card: &mut [u8], bib: u32, at: u32, time: u32) -> Answer {
-    unsafe { library::card_post(card.as_mut_ptr(), card.len(), bib, at, time) }
+pub fn post(card: &mut [u8], bib: u32, at: u32, status: u32, time: u32) -> Answer {
+    unsafe { library::card_post(card.as_mut_ptr(), card.len(), bib, at, status, time) }
 }
 
 /// As [`crate::strike`].
@@ -177,8 +186,8 @@ pub fn digits(time: u32, field: u32) -> Digits {
 }
 
 /// As [`crate::journal::post`].
-pub fn journal_post(journal: &mut [u8], bib: u32, at: u32, time: u32) -> Answer {
-    unsafe { library::journal_post(journal.as_mut_ptr(), journal.len(), bib, at, time) }
+pub fn journal_post(journal: &mut [u8], bib: u32, at: u32, status: u32, time: u32) -> Answer {
+    unsafe { library::journal_post(journal.as_mut_ptr(), journal.len(), bib, at, status, time) }
 }
 
 /// As [`crate::journal::strike`].

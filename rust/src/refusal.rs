@@ -33,10 +33,12 @@ pub enum Refusal {
     Unpaired = 12,
     /// 13: the stamp asked about is before the card's beginning.
     TooEarly = 13,
+    /// 14: a status above 3, or a time beside another status than timed.
+    NoStatus = 14,
 }
 
 impl Refusal {
-    const ALL: [Refusal; 12] = [
+    const ALL: [Refusal; 13] = [
         Refusal::Layout,
         Refusal::NoBib,
         Refusal::Stamp,
@@ -49,12 +51,13 @@ impl Refusal {
         Refusal::NoRequest,
         Refusal::Unpaired,
         Refusal::TooEarly,
+        Refusal::NoStatus,
     ];
 
     /// The answer number.
     ///
     /// ```
-    /// assert_eq!(card::post(&mut [], 1, 1, 0).unwrap_err().number(), 1);
+    /// assert_eq!(card::post(&mut [], 1, 1, card::Status::Timed, 0).unwrap_err().number(), 1);
     /// ```
     pub const fn number(self) -> u32 {
         self as u32
@@ -103,6 +106,7 @@ impl fmt::Display for Refusal {
             Refusal::NoRequest => "the request is not laid out as a post or a strike",
             Refusal::Unpaired => "the requests are not whole or not as many as the answers",
             Refusal::TooEarly => "the stamp asked about is before the card's beginning",
+            Refusal::NoStatus => "the status is none, or has a time beside it",
         })
     }
 }

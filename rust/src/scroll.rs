@@ -16,12 +16,12 @@ pub struct Scroll<'a> {
 /// Scrolls through a card as of a stamp. A refusal is given once and ends it.
 ///
 /// ```
-/// # use card::{Refusal, Shape};
+/// # use card::{Refusal, Shape, Status};
 /// # let mut bytes = vec![0; Shape::new(16, 4).bytes().unwrap()];
 /// # card::format(&mut bytes, Shape::new(16, 4))?;
-/// card::post(&mut bytes, 7, 100, 59_990)?;
-/// card::post(&mut bytes, 5, 110, 58_120)?;
-/// let times: Vec<u32> = card::scroll(&bytes, 110).map(|r| r.unwrap().time).collect();
+/// card::post(&mut bytes, 7, 100, Status::Timed, 59_990)?;
+/// card::post(&mut bytes, 5, 110, Status::Timed, 58_120)?;
+/// let times: Vec<u32> = card::scroll(&bytes, 110).filter_map(|r| r.unwrap().time).collect();
 /// assert_eq!(times, [58_120, 59_990]);
 /// assert_eq!(card::scroll(&[], 110).collect::<Vec<_>>(), [Err(Refusal::Layout)]);
 /// # Ok::<(), Refusal>(())
@@ -33,11 +33,11 @@ pub fn scroll(card: &[u8], at: u32) -> Scroll<'_> {
 /// Scrolls through the records of the bibs above `bib`, as of a stamp.
 ///
 /// ```
-/// # use card::{Refusal, Shape};
+/// # use card::{Refusal, Shape, Status};
 /// # let mut bytes = vec![0; Shape::new(16, 4).bytes().unwrap()];
 /// # card::format(&mut bytes, Shape::new(16, 4))?;
-/// card::post(&mut bytes, 7, 100, 59_990)?;
-/// card::post(&mut bytes, 5, 110, 58_120)?;
+/// card::post(&mut bytes, 7, 100, Status::Timed, 59_990)?;
+/// card::post(&mut bytes, 5, 110, Status::Timed, 58_120)?;
 /// let mut rest = card::scroll_above(&bytes, 5, 110);
 /// assert_eq!(rest.next().unwrap()?.bib, 7);
 /// assert_eq!(rest.next(), None);

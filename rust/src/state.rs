@@ -35,12 +35,12 @@ impl State {
     /// entry stamped 4294967295.
     ///
     /// ```
-    /// # use card::{Refusal, Shape};
+    /// # use card::{Refusal, Shape, Status};
     /// # let mut bytes = vec![0; Shape::new(16, 4).bytes().unwrap()];
     /// # card::format(&mut bytes, Shape::new(16, 4))?;
-    /// card::post(&mut bytes, 7, 100, 59_990)?;
+    /// card::post(&mut bytes, 7, 100, Status::Timed, 59_990)?;
     /// assert_eq!(card::state(&bytes)?.next_stamp(), Some(101));
-    /// card::post(&mut bytes, 7, u32::MAX, 59_980)?;
+    /// card::post(&mut bytes, 7, u32::MAX, Status::Timed, 59_980)?;
     /// assert_eq!(card::state(&bytes)?.next_stamp(), None);
     /// # Ok::<(), Refusal>(())
     /// ```

@@ -141,7 +141,7 @@ fn journals(side: &JournalCalls) -> Tally {
 fn no_call_on_a_journal_allocates() {
     for side in [LIBRARY_JOURNAL, MODEL_JOURNAL] {
         let tally = journals(&side);
-        for number in [0, 1, 2, 3, 5, 6] {
+        for number in [0, 1, 2, 3, 5, 6, 14] {
             assert!(tally[number] > 0, "no call on a journal was answered {number}");
         }
     }
@@ -161,7 +161,7 @@ fn no_season_of_either_allocates() {
 fn no_batch_of_either_allocates() {
     for side in [LIBRARY, MODEL] {
         let tally = batches(&side);
-        for number in [0, 1, 2, 3, 4, 5, 6, 11] {
+        for number in [0, 1, 2, 3, 4, 5, 6, 11, 14] {
             assert!(tally[number] > 0, "no request was answered {number}");
         }
     }
@@ -171,7 +171,7 @@ fn no_batch_of_either_allocates() {
 fn no_call_of_either_allocates() {
     for side in [LIBRARY, MODEL] {
         let tally = days(&side);
-        for number in [0, 1, 2, 3, 5, 6, 8, 9] {
+        for number in [0, 1, 2, 3, 5, 6, 8, 9, 14] {
             assert!(tally[number] > 0, "no call was answered {number}");
         }
         assert_eq!(asked(|| (side.state)(&[0; 16])).1, 0);

@@ -4,8 +4,8 @@ mod common;
 
 use card_model::call::{Call, MODEL};
 use common::batch::{blank_answers, compared, day, requests, spoil_some, whole, Left};
-use common::bytes::{first_sector, get, pick, put, Entry};
-use common::growth::{Day, Geometry};
+use common::bytes::{first_sector, get, pick, post_of, put, Entry};
+use common::growth::{result, Day, Geometry};
 use common::mutate::damage;
 use common::pair::Tally;
 use common::random::Random;
@@ -148,7 +148,7 @@ fn the_growing_card_in_one_batch() {
     assert_eq!(roots(&card), 1);
 }
 
-/// Every kind but 1 and 2, every nonzero byte of 1 to 3, every nonzero byte of a strike's value.
+/// Every kind but 1 and 2, every nonzero byte 2 and 3, every nonzero byte 1 of a strike and of its value.
 #[test]
 fn badly_asked() {
     let sound = [(1, 7, 20, 0), (2, 7, 20, 0)].map(|entry| requests(&[entry]));
@@ -156,7 +156,7 @@ fn badly_asked() {
     for kind in (0..=255).filter(|kind| ![1, 2].contains(kind)) {
         bad.push(requests(&[(kind, 7, 20, 0)]));
     }
-    for (request, places) in [(&sound[0], 1..4), (&sound[1], 1..4), (&sound[1], 12..16)] {
+    for (request, places) in [(&sound[0], 2..4), (&sound[1], 1..4), (&sound[1], 12..16)] {
         for place in places {
             for byte in 1..=255 {
                 let mut request = request.clone();
@@ -261,7 +261,7 @@ fn on_no_card() {
 #[test]
 fn on_cards_of_ours() {
     let mut new_roots = 0;
-    rounds("batches on own cards", 15, &[0, 2, 3, 5, 6, 11], |seed| {
+    rounds("batches on own cards", 15, &[0, 2, 3, 5, 6, 11, 14], |seed| {
         let mut random = Random::new(seed);
         let mut geometry = Geometry::random(&mut random);
         geometry.buckets = geometry.buckets.min(120);
@@ -294,8 +294,9 @@ fn for_foreign(card: &[u8], random: &mut Random, many: u32) -> Vec<u8> {
             1 => random.within(0, 62),
             _ => (1 << 30) + turn,
         };
+        let (status, time) = result(random);
         let strike = random.chance(35);
-        asked.push(if strike { (2, bib, at, 0) } else { (1, bib, at, random.any()) });
+        asked.push(if strike { (2, bib, at, 0) } else { (post_of(status), bib, at, time) });
     }
     let mut bytes = requests(&asked);
     spoil_some(&mut bytes, random);
@@ -304,7 +305,7 @@ fn for_foreign(card: &[u8], random: &mut Random, many: u32) -> Vec<u8> {
 
 #[test]
 fn on_cards_not_of_our_making() {
-    rounds("batches on foreign cards", 10, &[0, 1, 2, 3, 4, 5, 6, 11], |seed| {
+    rounds("batches on foreign cards", 10, &[0, 1, 2, 3, 4, 5, 6, 11, 14], |seed| {
         let mut random = Random::new(seed);
         let mut card = foreign::card(&mut random);
         for _ in 0..random.of(&[0, 0, 1, 2]) {
@@ -324,7 +325,7 @@ fn on_cards_not_of_our_making() {
 /// Our own with bytes changed, then batches on them.
 #[test]
 fn on_cards_of_ours_with_bytes_changed() {
-    rounds("batches on changed cards", 5, &[0, 1, 3, 4, 6, 11], |seed| {
+    rounds("batches on changed cards", 5, &[0, 1, 3, 4, 6, 11, 14], |seed| {
         let mut random = Random::new(seed);
         let mut geometry = Geometry::random(&mut random);
         geometry.buckets = geometry.buckets.min(60);

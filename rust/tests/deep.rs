@@ -14,7 +14,7 @@ fn on_a_small_stack(card: Vec<u8>, bib: u32) -> [u32; 4] {
         let mut pair = Pair::new(0, card);
         [
             pair.call(Call::Look { bib: 1, at: u32::MAX }).code,
-            pair.call(Call::Post { bib, at: 50, time: 3 }).code,
+            pair.call(Call::Post { bib, at: 50, status: 0, time: 3 }).code,
             pair.call(Call::Look { bib, at: 50 }).code,
             pair.call(Call::Next { bib, at: u32::MAX }).code,
         ]

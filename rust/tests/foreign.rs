@@ -4,7 +4,7 @@ mod common;
 
 use card_model::call::{Call, MODEL};
 use common::bytes::{get, pick};
-use common::growth::{Day, Geometry};
+use common::growth::{no_result, result, Day, Geometry};
 use common::mutate::damage;
 use common::pair::Pair;
 use common::random::Random;
@@ -36,7 +36,10 @@ fn calls(pair: &mut Pair, random: &mut Random, turns: u32) {
         let bib = bib(pair.card(), random);
         let asked = if random.chance(50) { u32::MAX } else { random.within(0, 62) };
         let call = match random.within(0, 9) {
-            0..=3 => Call::Post { bib, at: stamp(random, turn), time: random.any() },
+            0..=3 => {
+                let (status, time) = if random.chance(5) { no_result(random) } else { result(random) };
+                Call::Post { bib, at: stamp(random, turn), status, time }
+            }
             4 | 5 => Call::Strike { bib, at: stamp(random, turn) },
             6 | 7 => Call::Look { bib, at: asked },
             _ => Call::Next { bib, at: asked },
@@ -47,7 +50,7 @@ fn calls(pair: &mut Pair, random: &mut Random, turns: u32) {
 
 #[test]
 fn foreign_cards() {
-    rounds("foreign cards", 25, &[0, 1, 2, 3, 4, 5, 6, 13], |seed| {
+    rounds("foreign cards", 25, &[0, 1, 2, 3, 4, 5, 6, 13, 14], |seed| {
         let mut random = Random::new(seed);
         let mut card = foreign::card(&mut random);
         for _ in 0..random.of(&[0, 0, 1, 2]) {
@@ -61,7 +64,7 @@ fn foreign_cards() {
 
 #[test]
 fn our_own_with_bytes_changed() {
-    rounds("changed cards", 15, &[0, 1, 2, 3, 4, 5, 6, 13], |seed| {
+    rounds("changed cards", 15, &[0, 1, 2, 3, 4, 5, 6, 13, 14], |seed| {
         let mut random = Random::new(seed);
         let mut geometry = Geometry::random(&mut random);
         geometry.buckets = geometry.buckets.min(150);

@@ -1,13 +1,13 @@
 //! The two cards that docs/FORMAT.md shows: their bytes were written down by hand from the rules. The calls it
 //! names leave just these bytes, and its questions have the answers it gives.
 
-use card::{Look, Record, Refusal, Request, Shape, State};
+use card::{Look, Record, Refusal, Request, Shape, State, Status};
 
 const PAGE: &str = include_str!("../../docs/FORMAT.md");
 
-const SEVEN: Record = Record { bib: 7, at: 100, time: 59_990 };
-const NINE: Record = Record { bib: 9, at: 130, time: 58_120 };
-const TWELVE: Record = Record { bib: 12, at: 110, time: 61_230 };
+const SEVEN: Record = Record { bib: 7, at: 100, status: Status::Timed, time: Some(59_990) };
+const NINE: Record = Record { bib: 9, at: 130, status: Status::Timed, time: Some(58_120) };
+const TWELVE: Record = Record { bib: 12, at: 110, status: Status::Timed, time: Some(61_230) };
 
 /// A line of the dump: its place and its sixteen bytes. Other lines of the page have no such words.
 fn sector(line: &str) -> Option<(usize, Vec<u8>)> {
@@ -40,10 +40,10 @@ fn the_calls_leave_these_bytes() {
     let shape = Shape::new(4, 4).td(3).ti(4);
     let mut card = vec![0; shape.bytes().unwrap()];
     card::format(&mut card, shape).unwrap();
-    card::post(&mut card, 7, 100, 59_990).unwrap();
-    card::post(&mut card, 12, 110, 61_230).unwrap();
+    card::post(&mut card, 7, 100, Status::Timed, 59_990).unwrap();
+    card::post(&mut card, 12, 110, Status::Timed, 61_230).unwrap();
     card::strike(&mut card, 7, 120).unwrap();
-    card::post(&mut card, 9, 130, 58_120).unwrap();
+    card::post(&mut card, 9, 130, Status::Timed, 58_120).unwrap();
     assert_eq!(card, dumped());
 }
 
@@ -54,10 +54,10 @@ fn one_batch_leaves_these_bytes() {
     let mut card = vec![0; shape.bytes().unwrap()];
     card::format(&mut card, shape).unwrap();
     let asked = [
-        Request::Post { bib: 7, at: 100, time: 59_990 },
-        Request::Post { bib: 12, at: 110, time: 61_230 },
+        Request::Post { bib: 7, at: 100, status: Status::Timed, time: 59_990 },
+        Request::Post { bib: 12, at: 110, status: Status::Timed, time: 61_230 },
         Request::Strike { bib: 7, at: 120 },
-        Request::Post { bib: 9, at: 130, time: 58_120 },
+        Request::Post { bib: 9, at: 130, status: Status::Timed, time: 58_120 },
     ];
     let mut numbers = [0x5a; 4];
     card::batch(&mut card, &asked.map(Request::sector), &mut numbers).unwrap();
@@ -86,7 +86,7 @@ fn nexts_and_the_post_are_answered_as_the_page_says() {
     for (bib, at, record) in asked {
         assert_eq!(card::next(&card, bib, at), Ok(record), "above {bib} as of {at}");
     }
-    assert_eq!(card::post(&mut card, 3, 130, 1), Err(Refusal::Stamp));
+    assert_eq!(card::post(&mut card, 3, 130, Status::Timed, 1), Err(Refusal::Stamp));
 }
 
 #[test]
@@ -107,5 +107,5 @@ fn the_season_card_is_as_the_page_says() {
     assert_eq!(card::look(&season, 12, 140), Ok(Look { record: Some(TWELVE), reads: 2 }));
     assert_eq!(card::look(&season, 12, 139), Err(Refusal::TooEarly));
     assert_eq!(card::look(&season, 0, 139), Err(Refusal::NoBib));
-    assert_eq!(card::post(&mut season, 7, 140, 1), Err(Refusal::Stamp));
+    assert_eq!(card::post(&mut season, 7, 140, Status::Timed, 1), Err(Refusal::Stamp));
 }

@@ -5,8 +5,8 @@ mod common;
 use card_model::call::Call;
 use card_model::list::List;
 use card_model::Answer;
-use common::bytes::{put, set};
-use common::growth::{Day, Geometry};
+use common::bytes::{post_of, put, set};
+use common::growth::{result, Day, Geometry};
 use common::journal::{journal, spoil, JournalPair};
 use common::listed::said;
 use common::pair::{is_question, Pair};
@@ -22,7 +22,7 @@ fn four() -> Vec<u8> {
 
 /// Each call once, likely accepted where the slice is a journal: the bib stands, the stamp is above.
 const EACH: [Call; 4] = [
-    Call::Post { bib: 5, at: NOW - 1, time: 1 },
+    Call::Post { bib: 5, at: NOW - 1, status: 0, time: 1 },
     Call::Strike { bib: 5, at: NOW },
     Call::Look { bib: 5, at: NOW },
     Call::Next { bib: 0, at: NOW },
@@ -41,9 +41,9 @@ fn is_journal(slice: &[u8]) -> bool {
 fn entries_in_arrival_order() {
     let mut pair = JournalPair::new(1, vec![0; 96]);
     for call in [
-        Call::Post { bib: 8, at: 10, time: 61230 },
-        Call::Post { bib: 5, at: 20, time: 60000 },
-        Call::Post { bib: 5, at: 30, time: 59990 },
+        Call::Post { bib: 8, at: 10, status: 0, time: 61230 },
+        Call::Post { bib: 5, at: 20, status: 0, time: 60000 },
+        Call::Post { bib: 5, at: 30, status: 0, time: 59990 },
         Call::Strike { bib: 8, at: 40 },
     ] {
         assert_eq!(pair.call(call), Answer::ACCEPTED);
@@ -100,12 +100,12 @@ fn refusals_in_order() {
     {
         assert_eq!(code(slice, Call::Strike { bib, at }), number);
         let for_a_post = if number == 5 { 6 } else { number };
-        assert_eq!(code(slice, Call::Post { bib, at, time: 9 }), for_a_post);
+        assert_eq!(code(slice, Call::Post { bib, at, status: 0, time: 9 }), for_a_post);
     }
     assert_eq!(code(&broken, Call::Look { bib: 0, at: 0 }), 1);
     assert_eq!(code(&full, Call::Look { bib: 0, at: 0 }), 2);
     assert_eq!(code(&broken, Call::Next { bib: 0, at: 0 }), 1);
-    assert_eq!(code(&full, Call::Post { bib: 7, at: 0, time: 9 }), 3);
+    assert_eq!(code(&full, Call::Post { bib: 7, at: 0, status: 0, time: 9 }), 3);
 }
 
 /// 6 exactly when no blank sector is left. An empty slice has none: a journal, and full.
@@ -113,10 +113,14 @@ fn refusals_in_order() {
 fn full() {
     for sectors in 0..=5 {
         let mut pair = JournalPair::new(4, vec![0; 16 * sectors]);
-        assert_eq!(pair.call(Call::Post { bib: 7, at: 0, time: 9 }).code, 3);
+        assert_eq!(pair.call(Call::Post { bib: 7, at: 0, status: 0, time: 9 }).code, 3);
         for at in 1..=8 {
             let expected = if at as usize <= sectors { 0 } else { 6 };
-            assert_eq!(pair.call(Call::Post { bib: 7, at, time: at }).code, expected, "{at} of {sectors}");
+            assert_eq!(
+                pair.call(Call::Post { bib: 7, at, status: 0, time: at }).code,
+                expected,
+                "{at} of {sectors}"
+            );
         }
         let last = Answer { bib: 7, at: sectors as u32, time: sectors as u32, ..Answer::ACCEPTED };
         assert_eq!(pair.call(Call::Look { bib: 7, at: NOW }), last);
@@ -129,8 +133,8 @@ fn full() {
 #[test]
 fn closed_by_the_last_stamp() {
     let mut pair = JournalPair::new(5, four());
-    assert_eq!(pair.call(Call::Post { bib: 1, at: NOW, time: 3 }).code, 0);
-    assert_eq!(pair.call(Call::Post { bib: 1, at: NOW, time: 3 }).code, 3);
+    assert_eq!(pair.call(Call::Post { bib: 1, at: NOW, status: 0, time: 3 }).code, 0);
+    assert_eq!(pair.call(Call::Post { bib: 1, at: NOW, status: 0, time: 3 }).code, 3);
     assert_eq!(pair.call(Call::Look { bib: 1, at: NOW - 1 }).at, 0);
     assert_eq!(pair.call(Call::Look { bib: 1, at: NOW }).at, NOW);
 }
@@ -167,14 +171,9 @@ fn kinds() {
 
 #[test]
 fn bytes_that_are_zero() {
-    for place in [1, 2, 3] {
-        for (sector, bytes) in [(0, [1, 7, 255]), (3, [1, 7, 255])] {
-            for byte in bytes {
-                assert!(
-                    !changed(|slice| slice[16 * sector + place] = byte),
-                    "byte {place} of sector {sector}"
-                );
-            }
+    for (sector, place) in [(0, 2), (0, 3), (3, 1), (3, 2), (3, 3)] {
+        for byte in 1..=255 {
+            assert!(!changed(|slice| slice[16 * sector + place] = byte), "byte {place} of sector {sector}");
         }
     }
     for place in 64..96 {
@@ -238,7 +237,7 @@ fn strikes_of_nothing() {
     assert_eq!(pair.call(Call::Look { bib: 3, at: NOW }), Answer { bib: 3, ..Answer::ACCEPTED });
     assert_eq!(pair.call(Call::Next { bib: 0, at: NOW }).bib, 5);
     assert_eq!(pair.call(Call::Strike { bib: 3, at: 4 }).code, 5);
-    assert_eq!(pair.call(Call::Post { bib: 3, at: 4, time: 1 }).code, 0);
+    assert_eq!(pair.call(Call::Post { bib: 3, at: 4, status: 0, time: 1 }).code, 0);
 }
 
 // Random sequences.
@@ -266,7 +265,7 @@ fn written_once(before: &[u8], after: &[u8]) {
 #[test]
 fn beside_a_card() {
     let (mut by_card, mut by_journal) = (0, 0);
-    rounds("journal beside a card", 15, &[0, 2, 3, 5, 6], |seed| {
+    rounds("journal beside a card", 15, &[0, 2, 3, 5, 6, 14], |seed| {
         let mut random = Random::new(seed);
         let mut geometry = Geometry::random(&mut random);
         geometry.buckets = geometry.buckets.min(200);
@@ -311,7 +310,7 @@ fn agrees_with(list: &List, journal: &JournalPair, call: Call, answer: Answer) {
 /// Journals filled to the last sector and beyond.
 #[test]
 fn beyond_full() {
-    rounds("full journals", 10, &[0, 2, 3, 5, 6], |seed| {
+    rounds("full journals", 10, &[0, 2, 3, 5, 6, 14], |seed| {
         let mut random = Random::new(seed);
         let sectors = random.within(0, 60) as usize;
         let mut pair = JournalPair::new(seed, vec![0; 16 * sectors]);
@@ -334,7 +333,7 @@ fn beyond_full() {
 /// Slices that others wrote, or nobody: journals with bytes changed, cut, and noise.
 #[test]
 fn any_bytes() {
-    rounds("any bytes as journals", 15, &[0, 1, 2, 3, 5, 6], |seed| {
+    rounds("any bytes as journals", 15, &[0, 1, 2, 3, 5, 6, 14], |seed| {
         let mut random = Random::new(seed);
         let mut slice = some_bytes(&mut random);
         let stamp = random.of(&[0, 100, 3000]);
@@ -361,7 +360,8 @@ fn some_bytes(random: &mut Random) -> Vec<u8> {
     for i in 0..random.within(0, slice.len() as u32 / 16) as usize {
         stamp += random.of(&[1, 1, 2, 50]);
         let bib = random.within(1, 12);
-        let entry = if random.chance(25) { (2, bib, stamp, 0) } else { (1, bib, stamp, random.any()) };
+        let (status, time) = result(random);
+        let entry = if random.chance(25) { (2, bib, stamp, 0) } else { (post_of(status), bib, stamp, time) };
         put(&mut slice, i, entry);
     }
     slice

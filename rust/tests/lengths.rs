@@ -17,7 +17,7 @@ fn every_call(pair: &mut Pair) {
     let (card, geometry) = (pair.card().to_vec(), Geometry { buckets: 3, sectors: 5, td: 0, ti: 0 });
     season::onto_blank(&card, 49, geometry);
     season::compared(&season::session(), 49, &card, geometry);
-    pair.call(Call::Post { bib: 5, at: 1000, time: 1 });
+    pair.call(Call::Post { bib: 5, at: 1000, status: 0, time: 1 });
     pair.call(Call::Strike { bib: 8, at: 1001 });
     pair.call(Call::Look { bib: 8, at: 49 });
     pair.call(Call::Next { bib: 0, at: u32::MAX });
@@ -47,7 +47,7 @@ fn cut_and_lengthened() {
     let mut whole = Pair::new(0, vec![0; length(8, 4)]);
     whole.call(Call::Format { buckets: 8, sectors: 4, td: 3, ti: 4 });
     for (bib, at) in [(8, 10), (3, 20), (11, 30), (5, 40)] {
-        assert_eq!(whole.call(Call::Post { bib, at, time: 61230 }).code, 0);
+        assert_eq!(whole.call(Call::Post { bib, at, status: 0, time: 61230 }).code, 0);
     }
     for len in 0..=900 {
         let mut card = whole.card().to_vec();

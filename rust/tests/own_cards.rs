@@ -44,7 +44,7 @@ fn scroll(pair: &mut Pair, at: u32) {
 
 #[test]
 fn random_days_in_many_geometries() {
-    rounds("own cards", 40, &[0, 1, 2, 3, 5, 6, 8], |seed| {
+    rounds("own cards", 40, &[0, 1, 2, 3, 5, 6, 8, 14], |seed| {
         let mut random = Random::new(seed);
         let geometry = Geometry::random(&mut random);
         let most = if geometry.length() > 300_000 { 60 } else { random.of(&[40, 150, 600]) };
@@ -74,7 +74,7 @@ fn the_largest_card() {
     let mut deepest = 0;
     for at in 1..=2500 {
         let bib = random.within(1, 4000);
-        assert_eq!(pair.call(Call::Post { bib, at, time: at }).code, 0);
+        assert_eq!(pair.call(Call::Post { bib, at, status: 0, time: at }).code, 0);
         if at % 50 == 0 {
             deepest = deepest.max(pair.call(Call::Look { bib, at: random.within(1, at) }).reads);
         }

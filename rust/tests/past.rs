@@ -67,10 +67,11 @@ fn every_past_stamp_and_every_bib() {
     for at in 1..=300 {
         let bib = 2 * random.within(1, 60);
         if random.chance(25) && pair.call(Call::Strike { bib, at }).code == 0 {
-            list.push(Said { bib, at, time: None });
+            list.push(Said { bib, at, result: None });
         } else {
-            assert_eq!(pair.call(Call::Post { bib, at, time: 7 * at }).code, 0);
-            list.push(Said { bib, at, time: Some(7 * at) });
+            let (status, time) = if at % 5 == 0 { (random.within(1, 3), 0) } else { (0, 7 * at) };
+            assert_eq!(pair.call(Call::Post { bib, at, status, time }).code, 0);
+            list.push(Said { bib, at, result: Some((status, time)) });
         }
     }
     let (stamps, bibs) = asked(&list);

@@ -30,9 +30,10 @@ fn made(log: &[Entry], buckets: &[&[Entry]]) -> Vec<u8> {
     card
 }
 
-/// The answer of one call, the same from both implementations.
+/// The answer of one call, the same from both implementations; none here has another status than 0.
 fn ask(card: &[u8], call: Call) -> [u32; 5] {
-    let Answer { code, bib, at, time, reads } = Pair::new(0, card.to_vec()).call(call);
+    let Answer { code, bib, at, status, time, reads } = Pair::new(0, card.to_vec()).call(call);
+    assert_eq!(status, 0, "{call:?}");
     [code, bib, at, time, reads]
 }
 
@@ -52,14 +53,14 @@ fn look(bib: u32, at: u32) -> Call {
 }
 
 fn post(bib: u32, at: u32) -> Call {
-    Call::Post { bib, at, time: 7 }
+    Call::Post { bib, at, status: 0, time: 7 }
 }
 
 /// The entries of a bucket's written sectors.
 fn bucket(card: &[u8], number: u32) -> Vec<Entry> {
     let from = 16 * first_sector(8, 4, number);
     let sectors = card[from..from + 64].chunks(16).filter(|sector| sector.iter().any(|&byte| byte != 0));
-    sectors.map(|s| (s[0], get(s, 4), get(s, 8), get(s, 12))).collect()
+    sectors.map(|s| (u16::from_le_bytes([s[0], s[1]]), get(s, 4), get(s, 8), get(s, 12))).collect()
 }
 
 /// Key 0 asks for stamp 0, but stamp 0 does not ask for key 0.

@@ -1,6 +1,6 @@
 //! The safe functions say in Rust types what the numbers say.
 
-use card::{Look, NoRefusal, Record, Refusal, Request, Shape};
+use card::{Look, NoRefusal, Record, Refusal, Request, Shape, Status};
 
 fn small() -> Vec<u8> {
     let shape = Shape::new(2, 4);
@@ -14,12 +14,13 @@ fn each_refusal_by_its_name() {
     let mut bytes = small();
     assert_eq!(card::look(&bytes[1..], 1, 1), Err(Refusal::Layout));
     assert_eq!(card::look(&bytes, 0, 1), Err(Refusal::NoBib));
-    assert_eq!(card::post(&mut bytes, 1, 0, 1), Err(Refusal::Stamp));
+    assert_eq!(card::post(&mut bytes, 1, 0, Status::DidNotStart, 1), Err(Refusal::NoStatus));
+    assert_eq!(card::post(&mut bytes, 1, 0, Status::Timed, 1), Err(Refusal::Stamp));
     assert_eq!(card::strike(&mut bytes, 1, 1), Err(Refusal::NothingStands));
     for at in 1..=3 {
-        assert_eq!(card::post(&mut bytes, 1, at, 5), Ok(()));
+        assert_eq!(card::post(&mut bytes, 1, at, Status::Timed, 5), Ok(()));
     }
-    assert_eq!(card::post(&mut bytes, 1, 4, 5), Err(Refusal::Full));
+    assert_eq!(card::post(&mut bytes, 1, 4, Status::Timed, 5), Err(Refusal::Full));
     assert_eq!(card::digits(0, 7), Err(Refusal::Panel));
     assert_eq!(card::format(&mut [0; 15], Shape::new(2, 4)), Err(Refusal::Shape));
     assert_eq!(card::format(&mut bytes, Shape::new(2, 4)), Err(Refusal::NotBlank));
@@ -32,7 +33,7 @@ fn each_refusal_by_its_name() {
 }
 
 /// Each number, its name and its words.
-const SAID: [(u32, Refusal, &str); 12] = [
+const SAID: [(u32, Refusal, &str); 13] = [
     (1, Refusal::Layout, "the card's head or length breaks the layout"),
     (2, Refusal::NoBib, "bib 0 is no bib"),
     (3, Refusal::Stamp, "the stamp is not above the largest on the card"),
@@ -45,6 +46,7 @@ const SAID: [(u32, Refusal, &str); 12] = [
     (11, Refusal::NoRequest, "the request is not laid out as a post or a strike"),
     (12, Refusal::Unpaired, "the requests are not whole or not as many as the answers"),
     (13, Refusal::TooEarly, "the stamp asked about is before the card's beginning"),
+    (14, Refusal::NoStatus, "the status is none, or has a time beside it"),
 ];
 
 #[test]
@@ -54,7 +56,7 @@ fn numbers_names_and_words() {
         assert_eq!((u32::from(refusal), refusal.number()), (number, number));
         assert_eq!(refusal.to_string(), words);
     }
-    for number in [0, 10, 14, u32::MAX] {
+    for number in [0, 10, 15, u32::MAX] {
         assert_eq!(Refusal::try_from(number), Err(NoRefusal(number)));
         assert_eq!(NoRefusal(number).to_string(), format!("no refusal has the number {number}"));
     }
@@ -64,11 +66,11 @@ fn numbers_names_and_words() {
 #[test]
 fn a_batch_in_rust_types() {
     let mut bytes = small();
-    let post = Request::Post { bib: 0x0403_0201, at: 0x0807_0605, time: 0x0c0b_0a09 };
+    let post = Request::Post { bib: 0x0403_0201, at: 0x0807_0605, status: Status::Timed, time: 0x0c0b_0a09 };
     let strike = Request::Strike { bib: 0x0403_0201, at: 0x0807_0606 };
     assert_eq!(post.sector(), [1, 0, 0, 0, 1, 2, 3, 4, 5, 6, 7, 8, 9, 10, 11, 12]);
     assert_eq!(strike.sector(), [2, 0, 0, 0, 1, 2, 3, 4, 6, 6, 7, 8, 0, 0, 0, 0]);
-    let no_bib = Request::Post { bib: 0, at: u32::MAX, time: 1 };
+    let no_bib = Request::Post { bib: 0, at: u32::MAX, status: Status::Timed, time: 1 };
     let sheet = [post.sector(), [9; 16], no_bib.sector(), strike.sector(), strike.sector()];
     let mut numbers = [0x5a; 5];
     let mut answers = card::batch(&mut bytes, &sheet, &mut numbers).unwrap();
@@ -78,7 +80,10 @@ fn a_batch_in_rust_types() {
     assert_eq!((answers.next(), answers.next_back()), (None, None));
     assert_eq!(numbers, [0, 11, 2, 0, 3]);
     let then = card::look(&bytes, 0x0403_0201, 0x0807_0605).unwrap().record;
-    assert_eq!(then, Some(Record { bib: 0x0403_0201, at: 0x0807_0605, time: 0x0c0b_0a09 }));
+    assert_eq!(
+        then,
+        Some(Record { bib: 0x0403_0201, at: 0x0807_0605, status: Status::Timed, time: Some(0x0c0b_0a09) })
+    );
 }
 
 /// The head has m, TD and TI in bytes 1 to 3; a threshold of 0 is stored as the number meant.
@@ -97,7 +102,10 @@ fn shapes_as_the_head_has_them() {
 #[test]
 fn records_as_printed() {
     for (time, shown) in [(0, "0.000"), (7, "0.007"), (59_990, "59.990"), (u32::MAX, "4294967.295")] {
-        assert_eq!(Record { bib: 12, at: 34, time }.to_string(), format!("bib 12: {shown} at 34"));
+        assert_eq!(
+            Record { bib: 12, at: 34, status: Status::Timed, time: Some(time) }.to_string(),
+            format!("bib 12: {shown} at 34")
+        );
     }
 }
 
@@ -105,8 +113,8 @@ fn records_as_printed() {
 #[test]
 fn a_time_of_zero_stands() {
     let mut bytes = small();
-    card::post(&mut bytes, 1, 1, 0).unwrap();
-    let record = Record { bib: 1, at: 1, time: 0 };
+    card::post(&mut bytes, 1, 1, Status::Timed, 0).unwrap();
+    let record = Record { bib: 1, at: 1, status: Status::Timed, time: Some(0) };
     assert_eq!(card::look(&bytes, 1, 1), Ok(Look { record: Some(record), reads: 2 }));
     assert_eq!(card::next(&bytes, 0, 1), Ok(Some(record)));
     assert_eq!(card::look(&bytes, 2, 1), Ok(Look { record: None, reads: 2 }));

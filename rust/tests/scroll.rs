@@ -4,13 +4,18 @@
 mod common;
 
 use card::numbers::Tally;
-use card::{Record, Refusal, Shape};
+use card::{Record, Refusal, Shape, Status};
 use card_model::list::{List, Said};
 use common::guarded::Guarded;
 use common::mutate::damage;
 use common::pair;
 use common::random::Random;
 use common::{foreign, rounds};
+
+/// The status of each number, written here a second time.
+fn status(number: u32) -> Status {
+    [Status::Timed, Status::DidNotFinish, Status::Disqualified, Status::DidNotStart][number as usize]
+}
 
 /// A card of 200 writes on bibs 1 to 50, and the list of them.
 fn grown() -> (Vec<u8>, List) {
@@ -21,10 +26,12 @@ fn grown() -> (Vec<u8>, List) {
     for at in 1..=200 {
         let bib = random.within(1, 50);
         if random.chance(30) && card::strike(&mut bytes, bib, at).is_ok() {
-            list.push(Said { bib, at, time: None });
+            list.push(Said { bib, at, result: None });
         } else {
-            card::post(&mut bytes, bib, at, 10 * at).unwrap();
-            list.push(Said { bib, at, time: Some(10 * at) });
+            let (status, time) =
+                if at % 7 == 0 { (Status::Disqualified, 0) } else { (Status::Timed, 10 * at) };
+            card::post(&mut bytes, bib, at, status, time).unwrap();
+            list.push(Said { bib, at, result: Some((status.number(), time)) });
         }
     }
     (bytes, list)
@@ -36,8 +43,14 @@ fn as_of_every_stamp() {
     for at in 0..=201 {
         let records: Vec<Record> = card::scroll(&bytes, at).map(Result::unwrap).collect();
         let stood = (1..=50).map(|bib| list.look(bib, at)).filter(|said| said.at != 0);
-        let expected: Vec<Record> =
-            stood.map(|said| Record { bib: said.bib, at: said.at, time: said.time }).collect();
+        let expected: Vec<Record> = stood
+            .map(|said| Record {
+                bib: said.bib,
+                at: said.at,
+                status: status(said.status),
+                time: (said.status == 0).then_some(said.time),
+            })
+            .collect();
         assert_eq!(records, expected, "as of {at}");
     }
 }
@@ -91,7 +104,9 @@ fn row(card: &[u8], bib: u32, at: u32, out: &mut [u8]) -> Tally {
             break;
         }
         last = answer.bib;
-        laid.extend([1, answer.bib, answer.at, answer.time].map(u32::to_le_bytes).concat());
+        laid.extend(
+            [1 | answer.status << 8, answer.bib, answer.at, answer.time].map(u32::to_le_bytes).concat(),
+        );
     }
     out[..laid.len()].copy_from_slice(&laid);
     Tally { code: 0, count: laid.len() / 16 }
@@ -117,7 +132,12 @@ fn as_records(card: &[u8], bib: u32, at: u32, mut before: Vec<u8>, given: Tally,
         Ok(records) => {
             assert_eq!((0, records.len()), (given.code, given.count));
             let laid = left.chunks(16).take(given.count);
-            let expected = laid.map(|s| Record { bib: number(s, 4), at: number(s, 8), time: number(s, 12) });
+            let expected = laid.map(|s| Record {
+                bib: number(s, 4),
+                at: number(s, 8),
+                status: status(s[1].into()),
+                time: (s[1] == 0).then(|| number(s, 12)),
+            });
             assert!(records.clone().rev().eq(expected.clone().collect::<Vec<_>>().into_iter().rev()));
             assert!(records.eq(expected));
         }

@@ -100,7 +100,7 @@ fn nothing_stood() {
 fn two_index_levels() {
     let mut pair = Pair::formatted(1, shape(40, 8));
     for bib in 1..=9 {
-        assert_eq!(pair.call(Call::Post { bib: 10 * bib, at: bib, time: 7 }).code, 0);
+        assert_eq!(pair.call(Call::Post { bib: 10 * bib, at: bib, status: 0, time: 7 }).code, 0);
     }
     let season = copy(pair.card(), 100, shape(7, 4));
     let key_and_bucket = |bucket: u32, sector: usize| {
@@ -123,7 +123,7 @@ fn refusals_in_order() {
     let six = shape(2, 4);
     let mut pair = Pair::new(0, copy(&session(), 49, shape(16, 4)));
     for (bib, at) in [(20, 60), (21, 61), (22, 62)] {
-        assert_eq!(pair.call(Call::Post { bib, at, time: 1 }).code, 0);
+        assert_eq!(pair.call(Call::Post { bib, at, status: 0, time: 1 }).code, 0);
     }
     let sound = pair.card().to_vec();
     let mut damaged = sound.clone();
@@ -150,7 +150,8 @@ fn as_of_the_last_stamps() {
         let mut pair = Pair::new(0, copy(&session(), at, shape(16, 4)));
         assert_eq!(pair.call(Call::Look { bib: 5, at: NOW }).code, 0);
         assert_eq!(pair.call(Call::Look { bib: 5, at: at - 1 }).code, 13);
-        let codes = [NOW - 1, NOW, NOW].map(|at| pair.call(Call::Post { bib: 5, at, time: 1 }).code);
+        let codes =
+            [NOW - 1, NOW, NOW].map(|at| pair.call(Call::Post { bib: 5, at, status: 0, time: 1 }).code);
         assert_eq!(codes.iter().filter(|&&code| code == 0).count(), left);
     }
 }
@@ -253,8 +254,8 @@ fn copying_twice_is_copying_once() {
 /// The list that a season card begins with.
 fn begun(card: &[u8], at: u32) -> List {
     let mut list = List::default();
-    for (_, bib, at, time) in standing(card, at).unwrap() {
-        list.push(Said { bib, at, time: Some(time) });
+    for (kind, bib, at, time) in standing(card, at).unwrap() {
+        list.push(Said { bib, at, result: Some((u32::from(kind >> 8), time)) });
     }
     list
 }

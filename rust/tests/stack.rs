@@ -24,7 +24,7 @@ fn tall() -> (Vec<u8>, Vec<u8>, Call) {
     geometry.format().run(&MODEL, &mut card);
     let (mut roots, mut last) = (1, None);
     for at in 1.. {
-        let (before, call) = (card.clone(), Call::Post { bib: at, at, time: 1 });
+        let (before, call) = (card.clone(), Call::Post { bib: at, at, status: 0, time: 1 });
         if call.run(&MODEL, &mut card).code != 0 {
             break;
         }
@@ -48,7 +48,7 @@ fn a_batch_on_cards_of_ours() {
 /// The most that a batch of two takes on a copy of the card: the post, before and behind one that is refused,
 /// since a first request may go another way than the others.
 fn of_batch(card: &[u8], post: Call) -> usize {
-    let refused = Call::Post { bib: 0, at: 1, time: 1 };
+    let refused = Call::Post { bib: 0, at: 1, status: 0, time: 1 };
     let taken = [([post, refused], [0, 2]), ([refused, post], [2, 0])].map(|(calls, expected)| {
         let (requests, mut copy, mut answers) = (batch::requests_of(&calls), card.to_vec(), [0x5a; 2]);
         let taken = stack::on_a_thread(|| assert_eq!((LIBRARY.batch)(&mut copy, &requests, &mut answers), 0));
@@ -68,7 +68,7 @@ fn on_cards_of_ours() {
     let calls = [
         (&blank, Call::Format { buckets: 4096, sectors: 4, td: 2, ti: 4 }),
         (&before, rewrites),
-        (&full, Call::Post { bib: 1, at: now, time: 1 }),
+        (&full, Call::Post { bib: 1, at: now, status: 0, time: 1 }),
         (&full, Call::Strike { bib: 1, at: now }),
         (&full, Call::Look { bib: 1, at: now }),
         (&full, Call::Next { bib: 1, at: now }),
@@ -106,14 +106,17 @@ fn a_season_of_cards_of_ours_and_any() {
 #[test]
 fn on_any_card() {
     let most = said("CARD_STACK_ANY");
-    let (post, look) = (Call::Post { bib: 1, at: 50, time: 3 }, Call::Look { bib: 1, at: 50 });
+    let (post, look) = (Call::Post { bib: 1, at: 50, status: 0, time: 3 }, Call::Look { bib: 1, at: 50 });
     let full = deep::card(2047, |_| 4, false);
     let split = deep::card(1364, |_| 4, true);
     let longest = deep::card(4095, |_| 1, false);
     let next = Call::Next { bib: 0, at: 50 };
-    for (card, call) in
-        [(&full, post), (&split, Call::Post { bib: 2, at: 50, time: 3 }), (&longest, look), (&longest, next)]
-    {
+    for (card, call) in [
+        (&full, post),
+        (&split, Call::Post { bib: 2, at: 50, status: 0, time: 3 }),
+        (&longest, look),
+        (&longest, next),
+    ] {
         assert_eq!(call.run(&MODEL, &mut card.to_vec()).code, 0, "{call:?}");
         let taken = stack::of_call(LIBRARY, card, call);
         assert!(taken <= most, "{call:?} takes {taken}");
@@ -132,7 +135,7 @@ fn on_journals() {
     let long = journal(1000, &entries);
     let (bib, at) = (401, u32::MAX);
     for call in [
-        Call::Post { bib, at, time: 1 },
+        Call::Post { bib, at, status: 0, time: 1 },
         Call::Strike { bib, at },
         Call::Look { bib, at },
         Call::Next { bib: 0, at },

@@ -121,7 +121,7 @@ fn as_the_refusals_go_by() {
         if code != 0 {
             return tally;
         }
-        let mut post = |at| (LIBRARY.post)(&mut card, random.within(1, 30), at, 1).code;
+        let mut post = |at| (LIBRARY.post)(&mut card, random.within(1, 30), at, 0, 1).code;
         assert_eq!(post(last), 3, "seed {seed}");
         tally[3] += 1;
         if let Some(above) = last.checked_add(1) {

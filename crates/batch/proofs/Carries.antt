@@ -14,7 +14,7 @@ use Rattle.rules.specs.declared.Entry.{Entry}
 use Rattle.rules.specs.declared.Head.{Head}
 use Rattle.rules.specs.Answers.{refused}
 use Rattle.rules.specs.Layout.{headOf}
-use Rattle.rules.specs.Plain.{zeros}
+use Rattle.rules.specs.Plain.{_&_, zeros}
 use Rattle.rules.specs.Sector.{sectorAt, fields, isPost}
 use Rattle.rules.specs.Write.{Plan, refuse, accept, refuseIf, planAnswer, planCard, plan, stampOn}
 use Rattle.rules.specs.Batch.{wellAsked, request, requestFor, requestsIn, cardOf, answersTo, paired, batch}
@@ -32,16 +32,16 @@ use Rattle.batch.specs.Carry.{Knows, Took}
 
 -- how a request is asked, by what is found of it
 module _ (r : List ℕ) where
-  pub beside : zeros (take 3 (drop 1 r)) ≡ false → wellAsked r ≡ false
+  pub beside : zeros (take 2 (drop 2 r)) ≡ false → wellAsked r ≡ false
   unfolding wellAsked
   beside z = rw z
 
-  module _ (z : zeros (take 3 (drop 1 r)) ≡ true) where
+  module _ (z : zeros (take 2 (drop 2 r)) ≡ true) where
     pub well-post : fields r .kind ≡ 1 → wellAsked r ≡ true
     unfolding wellAsked isPost
     well-post k = rw (z, eq-eqb (fields r .kind) 1 k)
 
-    pub well-strike : (fields r .kind ≡ 1 → ⊥) → fields r .kind ≡ 2 → wellAsked r ≡ eqb (fields r .value) 0
+    pub well-strike : (fields r .kind ≡ 1 → ⊥) → fields r .kind ≡ 2 → wellAsked r ≡ eqb (fields r .status) 0 & eqb (fields r .value) 0
     unfolding wellAsked isPost
     well-strike n k = rw (z, ne-eqb (fields r .kind) 1 n, eq-eqb (fields r .kind) 2 k)
 

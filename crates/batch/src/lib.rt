@@ -38,8 +38,9 @@ fn enter(card: &mut [u8], head: Head, e: Entry, known: Known) -> Carried
     requires { ⌜ (headOf (now card) ≡ some head) × Asks e × Knows head (now card) known ⌝ }
     ensures { λ r. ⌜ Took r head (now (card .entry)) (now (card .exit)) (plan (now (card .entry)) e) ⌝ }
 {
-    if e.key == 0 {
-        return Carried { code: 2, known };
+    let flaw = sector::flaw_of(e);
+    if flaw != 0 {
+        return Carried { code: flaw, known };
     }
     if e.stamp <= known.stamp {
         return Carried { code: 3, known };
@@ -68,19 +69,21 @@ fn enter(card: &mut [u8], head: Head, e: Entry, known: Known) -> Carried
     }
 }
 
-// Whether request i is a post, or a strike without a value, with nothing beside its fields.
+// Whether request i is a post, or a strike without status and value, with nothing beside its fields.
 fn well_asked(requests: &[u8], i: usize) -> bool
     requires { ⌜ 16 * i + 16 ≤ length (now requests) ⌝ }
     ensures { λ r. ⌜ r ≡ wellAsked (sectorAt (now (requests .entry)) i) ⌝ }
 {
     let s = sector::bytes(requests, i);
-    if sector::all_zero(&s[1..4]) {
+    if sector::all_zero(&s[2..4]) {
         let e = sector::fields_at(requests, i);
         if e.kind == 1 {
             return true;
         }
         if e.kind == 2 {
-            return e.value == 0;
+            if e.status == 0 {
+                return e.value == 0;
+            }
         }
     }
     false

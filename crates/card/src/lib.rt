@@ -33,11 +33,11 @@ pub extern "C" fn card_format(
 }
 
 #[no_mangle]
-pub extern "C" fn card_post(card: &mut [u8], bib: u32, at: u32, time: u32) -> Answer
-    ensures { λ r. ⌜ r ≡ planAnswer (post (now (card .entry)) bib at time) ⌝ }
-    ensures { λ _. ⌜ now (card .exit) ≡ planCard (now (card .entry)) (post (now (card .entry)) bib at time) ⌝ }
+pub extern "C" fn card_post(card: &mut [u8], bib: u32, at: u32, status: u32, time: u32) -> Answer
+    ensures { λ r. ⌜ r ≡ planAnswer (post (now (card .entry)) bib at status time) ⌝ }
+    ensures { λ _. ⌜ now (card .exit) ≡ planCard (now (card .entry)) (post (now (card .entry)) bib at status time) ⌝ }
 {
-    write::post(card, bib, at, time)
+    write::post(card, bib, at, status, time)
 }
 
 #[no_mangle]
@@ -110,11 +110,17 @@ pub extern "C" fn card_digits(time: u32, field: u32) -> Digits
 }
 
 #[no_mangle]
-pub extern "C" fn journal_post(journal: &mut [u8], bib: u32, at: u32, time: u32) -> Answer
-    ensures { λ r. ⌜ r ≡ planAnswer (journalPost (now (journal .entry)) bib at time) ⌝ }
-    ensures { λ _. ⌜ now (journal .exit) ≡ planCard (now (journal .entry)) (journalPost (now (journal .entry)) bib at time) ⌝ }
+pub extern "C" fn journal_post(
+    journal: &mut [u8],
+    bib: u32,
+    at: u32,
+    status: u32,
+    time: u32,
+) -> Answer
+    ensures { λ r. ⌜ r ≡ planAnswer (journalPost (now (journal .entry)) bib at status time) ⌝ }
+    ensures { λ _. ⌜ now (journal .exit) ≡ planCard (now (journal .entry)) (journalPost (now (journal .entry)) bib at status time) ⌝ }
 {
-    journal::post(journal, bib, at, time)
+    journal::post(journal, bib, at, status, time)
 }
 
 #[no_mangle]

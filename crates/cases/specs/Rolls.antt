@@ -18,7 +18,7 @@ cardAfter card [] = card
 cardAfter card (k ∷ ks) = cardAfter (benchCall card k .card) ks
 
 abbrev pub calls : List Call
-calls = formatCall 16 4 3 4 ∷ postCall 8 10 61230 ∷ postCall 3 20 58900 ∷ postCall 11 30 59990 ∷ postCall 5 40 60000 ∷ strikeCall 8 50 ∷ []
+calls = formatCall 16 4 3 4 ∷ postCall 8 10 0 61230 ∷ postCall 3 20 0 58900 ∷ postCall 11 30 0 59990 ∷ postCall 5 40 0 60000 ∷ strikeCall 8 50 ∷ []
 
 -- the session's card, with 50 for its beginning
 abbrev begunAt50 : List ℕ

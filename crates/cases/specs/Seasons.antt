@@ -18,10 +18,10 @@ abbrev struckLater : List Line
 struckLater =
     anew
     ∷ ok (formatCall 16 4 3 4)
-    ∷ ok (postCall 8 10 61230)
-    ∷ ok (postCall 3 20 58900)
-    ∷ ok (postCall 11 30 59990)
-    ∷ ok (postCall 5 40 60000)
+    ∷ ok (postCall 8 10 0 61230)
+    ∷ ok (postCall 3 20 0 58900)
+    ∷ ok (postCall 11 30 0 59990)
+    ∷ ok (postCall 5 40 0 60000)
     ∷ ok (strikeCall 8 50)
     ∷ onward 49 8 4 0
     ∷ holds 1 (strike 0 0 ∷ post 3 20 58900 ∷ post 5 40 60000 ∷ Blank ∷ [])
@@ -36,16 +36,16 @@ abbrev twoLevels : List Line
 twoLevels =
     anew
     ∷ ok (formatCall 16 4 3 4)
-    ∷ ok (postCall 8 10 8000)
-    ∷ ok (postCall 3 20 3001)
-    ∷ ok (postCall 11 30 11002)
-    ∷ ok (postCall 5 40 5003)
-    ∷ ok (postCall 20 50 20004)
-    ∷ ok (postCall 17 60 17005)
-    ∷ ok (postCall 14 70 14006)
-    ∷ ok (postCall 9 80 9007)
-    ∷ ok (postCall 2 90 2008)
-    ∷ ok (postCall 30 100 30009)
+    ∷ ok (postCall 8 10 0 8000)
+    ∷ ok (postCall 3 20 0 3001)
+    ∷ ok (postCall 11 30 0 11002)
+    ∷ ok (postCall 5 40 0 5003)
+    ∷ ok (postCall 20 50 0 20004)
+    ∷ ok (postCall 17 60 0 17005)
+    ∷ ok (postCall 14 70 0 14006)
+    ∷ ok (postCall 9 80 0 9007)
+    ∷ ok (postCall 2 90 0 2008)
+    ∷ ok (postCall 30 100 0 30009)
     ∷ onward 100 6 4 6
     ∷ onward 100 7 4 0
     ∷ holds 1 (strike 0 0 ∷ post 2 90 2008 ∷ post 3 20 3001 ∷ Blank ∷ [])
@@ -58,8 +58,8 @@ twoLevels =
     ∷ logs (root 100 7 ∷ Blank ∷ Blank ∷ Blank ∷ Blank ∷ Blank ∷ Blank ∷ [])
     ∷ tells (0 ∷ 7 ∷ 4 ∷ 2 ∷ 4 ∷ 100 ∷ 100 ∷ 7 ∷ [])
     -- as of its beginning it answers with the stamps that it was given, and before it not at all
-    ∷ says (lookCall 9 100) (answer 0 9 80 9007 3)
-    ∷ says (nextCall 20 100) (answer 0 30 100 30009 0)
+    ∷ says (lookCall 9 100) (answer 0 9 80 0 9007 3)
+    ∷ says (nextCall 20 100) (answer 0 30 100 0 30009 0)
     ∷ says (lookCall 9 99) (refused 13)
     ∷ onward 99 7 4 13
     -- it goes on itself, with five to a bucket; a post is taken from the beginning on
@@ -70,10 +70,10 @@ twoLevels =
     ∷ holds 4 (index 0 200 1 ∷ index 9 200 2 ∷ index 30 200 3 ∷ Blank ∷ Blank ∷ Blank ∷ Blank ∷ [])
     ∷ logs (root 200 4 ∷ Blank ∷ Blank ∷ Blank ∷ [])
     ∷ tells (0 ∷ 4 ∷ 7 ∷ 3 ∷ 7 ∷ 200 ∷ 200 ∷ 4 ∷ [])
-    ∷ says (postCall 10 200 1) (refused 3)
-    ∷ ok (postCall 10 201 10010)
-    ∷ says (lookCall 10 201) (answer 0 10 201 10010 2)
-    ∷ says (lookCall 10 200) (answer 0 10 0 0 2)
+    ∷ says (postCall 10 200 0 1) (refused 3)
+    ∷ ok (postCall 10 201 0 10010)
+    ∷ says (lookCall 10 201) (answer 0 10 201 0 10010 2)
+    ∷ says (lookCall 10 200) (answer 0 10 0 0 0 2)
     ∷ []
 
 abbrev pub seasons : List Line

@@ -15,32 +15,32 @@ abbrev pub input : List ℕ
 input =
     sheet
     ("op=format buckets=16 sectors=4 td=3 ti=4"
-    ∷ "op=post bib=8 at=10 time=61230"
-    ∷ "op=post bib=3 at=20 time=58900"
-    ∷ "op=post bib=11 at=30 time=59990"
-    ∷ "op=post bib=5 at=40 time=60000"
+    ∷ "op=post bib=8 at=10 status=0 time=61230"
+    ∷ "op=post bib=3 at=20 status=0 time=58900"
+    ∷ "op=post bib=11 at=30 status=0 time=59990"
+    ∷ "op=post bib=5 at=40 status=0 time=60000"
     ∷ "op=strike bib=8 at=50"
     ∷ "op=look bib=8 at=49"
     ∷ "op=look bib=8 at=50"
     ∷ "op=next bib=5 at=49"
     ∷ "op=next bib=5 at=50"
-    ∷ "op=post bib=9 at=50 time=1"
+    ∷ "op=post bib=9 at=50 status=0 time=1"
     ∷ [])
 
 abbrev pub output : List ℕ
 output =
     sheet
-    ("code=0 bib=0 at=0 time=0 reads=0"
-    ∷ "code=0 bib=0 at=0 time=0 reads=0"
-    ∷ "code=0 bib=0 at=0 time=0 reads=0"
-    ∷ "code=0 bib=0 at=0 time=0 reads=0"
-    ∷ "code=0 bib=0 at=0 time=0 reads=0"
-    ∷ "code=0 bib=0 at=0 time=0 reads=0"
-    ∷ "code=0 bib=8 at=10 time=61230 reads=2"
-    ∷ "code=0 bib=8 at=0 time=0 reads=2"
-    ∷ "code=0 bib=8 at=10 time=61230 reads=0"
-    ∷ "code=0 bib=11 at=30 time=59990 reads=0"
-    ∷ "code=3 bib=0 at=0 time=0 reads=0"
+    ("code=0 bib=0 at=0 status=0 time=0 reads=0"
+    ∷ "code=0 bib=0 at=0 status=0 time=0 reads=0"
+    ∷ "code=0 bib=0 at=0 status=0 time=0 reads=0"
+    ∷ "code=0 bib=0 at=0 status=0 time=0 reads=0"
+    ∷ "code=0 bib=0 at=0 status=0 time=0 reads=0"
+    ∷ "code=0 bib=0 at=0 status=0 time=0 reads=0"
+    ∷ "code=0 bib=8 at=10 status=0 time=61230 reads=2"
+    ∷ "code=0 bib=8 at=0 status=0 time=0 reads=2"
+    ∷ "code=0 bib=8 at=10 status=0 time=61230 reads=0"
+    ∷ "code=0 bib=11 at=30 status=0 time=59990 reads=0"
+    ∷ "code=3 bib=0 at=0 status=0 time=0 reads=0"
     ∷ [])
 
 abbrev pub SessionAsSaid : Type 0

@@ -18,6 +18,7 @@ use Rattle.laws.proofs.Tools.{bool-cases}
 use Rattle.laws.proofs.Heads.{Lim}
 use Rattle.laws.proofs.Halves.{kept-all}
 use Rattle.laws.proofs.Blanks.{upFrom}
+use Rattle.writer.specs.Words.{Narrow}
 use Rattle.level.specs.Level.{sentList, pairsOf, AllSmall}
 use Rattle.level.specs.declared.Sent.{Sent}
 use Rattle.bucket.specs.Shapes.{Shape}
@@ -31,12 +32,13 @@ small-append [] ds a b = b
 small-append (e ∷ es) ds a b = (a .0, small-append es ds (a .1) b)
 
 pub kept-small : (hk s : ℕ) (es ds : List Entry) → AllSmall es → AllSmall ds → AllSmall (kept hk s (es ++ ds))
-kept-small hk s es ds a b = kept-all (λ e. e .kind < 256) hk s (es ++ ds) (small-append es ds a b)
+kept-small hk s es ds a b = kept-all Narrow hk s (es ++ ds) (small-append es ds a b)
 
 pub pairs-small : (s td fresh : ℕ) (es : List Entry) → AllSmall (pairsOf s td fresh es)
 unfolding pairsOf pair
 pairs-small s td fresh es =
-    ⊎-elim (λ (t : ltb (length es) td ≡ true). rw t (omega arith, tt)) (λ (t : ltb (length es) td ≡ false). rw t (omega arith, (omega arith, tt)))
+    ⊎-elim (λ (t : ltb (length es) td ≡ true). rw t ((omega arith, omega arith), tt))
+    (λ (t : ltb (length es) td ≡ false). rw t ((omega arith, omega arith), ((omega arith, omega arith), tt)))
     (bool-cases (ltb (length es) td))
 
 pub take-small : (n : ℕ) (es : List Entry) → AllSmall es → AllSmall (take n es)

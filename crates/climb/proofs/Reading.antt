@@ -14,11 +14,12 @@ use lib.Seq.{getD-take, getD-drop}
 use Rattle.rules.specs.declared.Entry.{Entry}
 use Rattle.rules.specs.declared.Head.{Head}
 use Rattle.rules.specs.declared.Sector.the-variants.{Blank, Held}
-use Rattle.rules.specs.Sector.{sectorAt, fields, decode, legal}
+use Rattle.rules.specs.Sector.{sectorAt, fields, decode, legal, otherRow}
 use Rattle.rules.specs.Layout.{base}
 use Rattle.rules.specs.Bucket.{run, blanksOf, soundBucket}
 use Rattle.laws.proofs.Tools.{none-some, bool-cases, false-true}
 use Rattle.laws.proofs.Codec.{blank-zeros}
+use Rattle.laws.proofs.Entries.{legal-status}
 use Rattle.laws.proofs.Run.{onto-inv}
 use Rattle.laws.proofs.Zeros.{zeros-get}
 use Rattle.laws.proofs.Bytes.{held-inv}
@@ -44,7 +45,7 @@ byte-first s i =
 
 -- an entry of the table has a kind from 1 to 4
 kind-legal : (n : ℕ) (e : Entry) → legal n e ≡ true → (1 ≤ e .kind) × (e .kind < 256)
-unfolding legal
+unfolding legal otherRow
 kind-legal n e q =
     ⊎-elim (λ (a : eqb (e .kind) 1 ≡ true). let k = eqb-true (e .kind) 1 a in (omega arith, omega arith))
     (λ (a : eqb (e .kind) 1 ≡ false).
@@ -93,7 +94,7 @@ entries-run n s i (suc c) es q =
     let ih = entries-run n s (suc i) c (b .1) (b .4) in
     subst (λ (z : List Entry). (entriesAt s i (length z) ≡ z) × AllSmall z) (sym (b .3)) (
       ap₂ (λ (x : Entry) (xs : List Entry). x ∷ xs) (v .0) (ap (λ (k : ℕ). entriesAt s k (length (b .1))) (add-one i) ∙ ih .0),
-      (kind-legal n (b .0) (v .1) .1, ih .1),
+      ((kind-legal n (b .0) (v .1) .1, omega (arith, legal-status n (b .0) (v .1))), ih .1),
     ))
     (onto-inv (decode n (sectorAt s i)) (run n s (suc i) c) es q)
 

@@ -213,6 +213,7 @@ fn write_log(card: &mut [u8], head: Head, root: u32, stamp: u32)
     if used < n {
         let e = Entry {
             kind: 4,
+            status: 0,
             key: 0,
             stamp,
             value: root,

@@ -42,18 +42,21 @@ fn lay_out(card: &mut [u8], head: Head)
     let second = first + head.m;
     let root = Entry {
         kind: 4,
+        status: 0,
         key: 0,
         stamp: 0,
         value: 1,
     };
     let index = Entry {
         kind: 3,
+        status: 0,
         key: 0,
         stamp: 0,
         value: 2,
     };
     let dummy = Entry {
         kind: 2,
+        status: 0,
         key: 0,
         stamp: 0,
         value: 0,

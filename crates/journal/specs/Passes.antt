@@ -10,10 +10,12 @@ use Rattle.rules.specs.declared.Answer.{Answer}
 use Rattle.rules.specs.declared.Sector.{Sector}
 use Rattle.rules.specs.declared.Sector.the-variants.{Blank, Held, Damaged}
 use Rattle.rules.specs.Answers.{refused, ended}
+use Rattle.rules.specs.Format.{orElse}
 use Rattle.rules.specs.Journal.{stampIn, nextOf}
 use Rattle.rules.specs.Plain.{if, _&_, lastOf}
 use Rattle.rules.specs.Sector.{isData, isPost}
 use Rattle.rules.specs.Walk.{left, copyOf}
+use Rattle.sector.specs.Flaws.{flawOf}
 use Rattle.scan.specs.declared.Found.{Found}
 use Rattle.scan.specs.declared.Found.the-variants.{Damage, Nothing, Hit}
 use Rattle.scan.specs.Scan.{allBlank, pick}
@@ -63,7 +65,7 @@ postFound (Hit e) = isPost e
 -- what an entry is refused with on a sound journal of so many sectors, or 0
 unfoldable pub objection : Entry → Pass → ℕ → ℕ
 objection e p count =
-    if (eqb (e .key) 0) 2
+    orElse (flawOf e)
     (if (leb (e .stamp) (p .last)) 3
     (if (not (isPost e) & not (postFound (p .copy))) 5
     (if (eqb (p .used) count) 6 0)))

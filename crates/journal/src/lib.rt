@@ -107,13 +107,14 @@ fn enter(slice: &mut [u8], e: Entry) -> Answer
     walk::refusal(0)
 }
 
-// A new time or a correction.
-pub fn post(slice: &mut [u8], bib: u32, at: u32, time: u32) -> Answer
-    ensures { λ r. ⌜ r ≡ planAnswer (journalPost (now (slice .entry)) bib at time) ⌝ }
-    ensures { λ _. ⌜ now (slice .exit) ≡ planCard (now (slice .entry)) (journalPost (now (slice .entry)) bib at time) ⌝ }
+// A new result or a correction: a time, or a status without one.
+pub fn post(slice: &mut [u8], bib: u32, at: u32, status: u32, time: u32) -> Answer
+    ensures { λ r. ⌜ r ≡ planAnswer (journalPost (now (slice .entry)) bib at status time) ⌝ }
+    ensures { λ _. ⌜ now (slice .exit) ≡ planCard (now (slice .entry)) (journalPost (now (slice .entry)) bib at status time) ⌝ }
 {
     let e = Entry {
         kind: 1,
+        status,
         key: bib,
         stamp: at,
         value: time,
@@ -121,13 +122,14 @@ pub fn post(slice: &mut [u8], bib: u32, at: u32, time: u32) -> Answer
     enter(slice, e)
 }
 
-// The bib's time stands no more.
+// The bib's result stands no more.
 pub fn strike(slice: &mut [u8], bib: u32, at: u32) -> Answer
     ensures { λ r. ⌜ r ≡ planAnswer (journalStrike (now (slice .entry)) bib at) ⌝ }
     ensures { λ _. ⌜ now (slice .exit) ≡ planCard (now (slice .entry)) (journalStrike (now (slice .entry)) bib at) ⌝ }
 {
     let e = Entry {
         kind: 2,
+        status: 0,
         key: bib,
         stamp: at,
         value: 0,

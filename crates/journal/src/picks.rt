@@ -44,8 +44,9 @@ fn strikes_nothing(kind: u32, copy: Found) -> bool
 pub fn objection(e: Entry, pass: Pass, count: usize) -> u32
     ensures { λ r. ⌜ r ≡ objection e pass count ⌝ }
 {
-    if e.key == 0 {
-        return 2;
+    let flaw = sector::flaw_of(e);
+    if flaw != 0 {
+        return flaw;
     }
     if e.stamp <= pass.last {
         return 3;

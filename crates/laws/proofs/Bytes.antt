@@ -57,7 +57,7 @@ unfolding encode
 bytes-encode e f = (
   f .kind,
   (
-    omega arith,
+    f .status,
     (
       omega arith,
       (
@@ -92,6 +92,7 @@ unfolding fields word
 fields-fit s b =
     record {
       kind = bytes-get s 0 b;
+      status = bytes-get s 1 b;
       key = omega (arith, bytes-get s 4 b, bytes-get s 5 b, bytes-get s 6 b, bytes-get s 7 b);
       stamp = omega (arith, bytes-get s 8 b, bytes-get s 9 b, bytes-get s 10 b, bytes-get s 11 b);
       value = omega (arith, bytes-get s 12 b, bytes-get s 13 b, bytes-get s 14 b, bytes-get s 15 b);
@@ -102,17 +103,17 @@ pub held-inv : (n : ℕ) (s : List ℕ) (e : Entry) → decode n s ≡ Held e �
 unfolding decode
 held-inv n s e q = go (zeros s) q
   where
-    go2 : (b : Bool) → zeros (take 3 (drop 1 s)) & legal n (fields s) ≡ b → if b (Held (fields s)) Damaged ≡ Held e
+    go2 : (b : Bool) → zeros (take 2 (drop 2 s)) & legal n (fields s) ≡ b → if b (Held (fields s)) Damaged ≡ Held e
         → (fields s ≡ e) × (legal n e ≡ true)
     go2 true t z =
         let fe : fields s ≡ e = cc in
-        (fe, ap (legal n) (sym fe) ∙ and-true (zeros (take 3 (drop 1 s))) (legal n (fields s)) t .1)
+        (fe, ap (legal n) (sym fe) ∙ and-true (zeros (take 2 (drop 2 s))) (legal n (fields s)) t .1)
     go2 false t z = (cc, cc)
 
-    go : (b : Bool) → if b Blank (if (zeros (take 3 (drop 1 s)) & legal n (fields s)) (Held (fields s)) Damaged) ≡ Held e
+    go : (b : Bool) → if b Blank (if (zeros (take 2 (drop 2 s)) & legal n (fields s)) (Held (fields s)) Damaged) ≡ Held e
         → (fields s ≡ e) × (legal n e ≡ true)
     go true z = (cc, cc)
-    go false z = go2 (zeros (take 3 (drop 1 s)) & legal n (fields s)) refl z
+    go false z = go2 (zeros (take 2 (drop 2 s)) & legal n (fields s)) refl z
 
 pub run-good : (n : ℕ) (card : List ℕ) → Bytes card → (i c : ℕ) (es : List Entry) → run n card i c ≡ some es → Good n es
 unfolding run sectorAt

@@ -305,7 +305,7 @@ module _ (h : Head) (lim : Lim h) (s : ℕ) (s32 : s < 4294967296) where
       let has = nx .1 in (
         record {
           size = nx .0 .size ∙ sym (length-fill card (blanks card 1 (h .n)) (rootEntry s b ∷ []) lies);
-          bytes = fits-fill card (blanks card 1 (h .n)) (rootEntry s b ∷ []) (nx .0 .bytes) (record { kind = omega arith; key = omega arith; stamp = s32; value = small }, tt);
+          bytes = fits-fill card (blanks card 1 (h .n)) (rootEntry s b ∷ []) (nx .0 .bytes) (record { kind = omega arith; status = omega arith; key = omega arith; stamp = s32; value = small }, tt);
           used = ap (λ (k : ℕ). k + 1) (used-agree h new card (h .n) (λ c p q. unwritten-agree new card (base h c) (h .m) (same (base h c) (h .m) (base-low c)))) ∙ nx .0 .used;
           hands = tt;
           few = omega arith;
@@ -387,7 +387,7 @@ stamp-after h card hq by e asks new q =
     let pw = plan-walk h card e new hq q in
     let inv = plan-inv h card e new (pw .0) hq (pw .1) q in
     let above = inv .1 in
-    let fine = asks-fine (h .n) e asks (inv .0) (omega arith) in
+    let fine = asks-fine (h .n) e asks (inv .0) (omega arith) (inv .3) in
     let has = planned-next h card hq by e fine (e .key) (pw .0) (pw .1) new (inv .2) .1 in
     let high = top-after h card hq by e asks new q in
     let cs = has .3 in
@@ -404,7 +404,7 @@ bytes-after h card hq by e asks new q =
     let pw = plan-walk h card e new hq q in
     let inv = plan-inv h card e new (pw .0) hq (pw .1) q in
     let above = inv .1 in
-    planned-next h card hq by e (asks-fine (h .n) e asks (inv .0) (omega arith)) (e .key) (pw .0) (pw .1) new (inv .2) .2
+    planned-next h card hq by e (asks-fine (h .n) e asks (inv .0) (omega arith) (inv .3)) (e .key) (pw .0) (pw .1) new (inv .2) .2
 
 -- the first sector stays, and with it the head and the beginning
 module _ (h : Head) (card : List ℕ) (hq : headOf card ≡ some h) (by : Bytes card) (e : Entry) (asks : Asks e) (new : List ℕ) (q : plan card e ≡ accept new) where

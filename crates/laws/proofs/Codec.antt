@@ -9,7 +9,7 @@ use lib.ListN.{length, take, drop}
 use Rattle.rules.specs.declared.Entry.{Entry}
 use Rattle.rules.specs.declared.Sector.the-variants.{Blank, Held, Damaged}
 use Rattle.rules.specs.Plain.{if, _&_, zeros}
-use Rattle.rules.specs.Sector.{word, le4, encode, decode, legal, fields}
+use Rattle.rules.specs.Sector.{word, le4, encode, decode, legal, otherRow, fields}
 use Rattle.laws.proofs.Tools.{false-true, bool-cases}
 
 -- the four places of a number, the last of which may be any
@@ -22,13 +22,14 @@ length-encode e = refl
 
 pub record Fits (e : Entry) : Type 0 where
   pub kind : e .kind < 256
+  pub status : e .status < 256
   pub key : e .key < 4294967296
   pub stamp : e .stamp < 4294967296
   pub value : e .value < 4294967296
 
 pub fields-encode : (e : Entry) → fields (encode e) ≡ e
 unfolding encode le4 fields word
-fields-encode e = λ i. record { kind = e .kind; key = digits4 (e .key) i; stamp = digits4 (e .stamp) i; value = digits4 (e .value) i }
+fields-encode e = λ i. record { kind = e .kind; status = e .status; key = digits4 (e .key) i; stamp = digits4 (e .stamp) i; value = digits4 (e .value) i }
 
 pub key-encode : (e : Entry) → word (encode e) 4 ≡ e .key
 unfolding encode le4 word
@@ -36,7 +37,7 @@ key-encode e = digits4 (e .key)
 
 -- no row of the table has kind 0
 written : (n : ℕ) (e : Entry) → legal n e ≡ true → (xs : List ℕ) → zeros (e .kind ∷ xs) ≡ false
-unfolding legal zeros
+unfolding legal otherRow zeros
 written n e l xs = go (e .kind) refl
   where
     go : (k : ℕ) → e .kind ≡ k → zeros (k ∷ xs) ≡ false
@@ -47,7 +48,7 @@ w : (n : ℕ) (e : Entry) → legal n e ≡ true → zeros (encode e) ≡ false
 unfolding encode
 w n e l = written n e l _
 
-z : (e : Entry) → zeros (take 3 (drop 1 (encode e))) ≡ true
+z : (e : Entry) → zeros (take 2 (drop 2 (encode e))) ≡ true
 unfolding encode zeros
 z e = refl
 
@@ -68,10 +69,10 @@ blank-zeros n s q = go (zeros s) refl q
     go2 true e = let z : _≡_ {A = ℕ} 0 1 = cc in omega arith
     go2 false e = let z : _≡_ {A = ℕ} 0 1 = cc in omega arith
 
-    go : (b : Bool) → zeros s ≡ b → if b Blank (if (zeros (take 3 (drop 1 s)) & legal n (fields s)) (Held (fields s)) Damaged) ≡ Blank
+    go : (b : Bool) → zeros s ≡ b → if b Blank (if (zeros (take 2 (drop 2 s)) & legal n (fields s)) (Held (fields s)) Damaged) ≡ Blank
         → zeros s ≡ true
     go true z e = z
-    go false z e = absurd (go2 (zeros (take 3 (drop 1 s)) & legal n (fields s)) e)
+    go false z e = absurd (go2 (zeros (take 2 (drop 2 s)) & legal n (fields s)) e)
 
 pub held-zeros : (n : ℕ) (s : List ℕ) (e : Entry) → decode n s ≡ Held e → zeros s ≡ false
 held-zeros n s e q = ⊎-elim (λ z. absurd (let r : Blank ≡ Held e = sym (zeros-blank n s z) ∙ q in let y : _≡_ {A = ℕ} 0 1 = cc in omega arith)) (λ z. z) (bool-cases (zeros s))

@@ -31,3 +31,4 @@ pub mod Roots
 pub mod Numbers
 pub mod Requests
 pub mod Journals
+pub mod Tells

@@ -1,4 +1,4 @@
--- The numbers that a write is refused with: one of 1 to 6, so that an answer of 0 is acceptance, and every answer is a byte.
+-- The numbers that a write is refused with: one of 1 to 6, or 14, so that an answer of 0 is acceptance, and every answer is a byte.
 use mathlib.Core.Path.{_≡_}
 use mathlib.Core.Bool.{Bool, true, false}
 use mathlib.Core.Option.{Option, none, some}
@@ -27,14 +27,14 @@ unfolding planAt planOn finish checked
 at-refuses P four five six h card e none = four
 at-refuses P four five six h card e (some p) = if-refuses P _ 5 _ five (if-refuses P _ 6 (accept _) six tt)
 
-for-refuses : (P : ℕ → Type 0) → ((c : ℕ) → 0 < c → c < 7 → P c) → (card : List ℕ) (e : Entry) (o : Option Head) → Refuses P (planFor card e o)
+for-refuses : (P : ℕ → Type 0) → ((c : ℕ) → 0 < c → c < 15 → P c) → (card : List ℕ) (e : Entry) (o : Option Head) → Refuses P (planFor card e o)
 unfolding planFor
 for-refuses P f card e none = f 1 (omega arith) (omega arith)
 for-refuses P f card e (some h) =
-    if-refuses P _ 2 _ (f 2 (omega arith) (omega arith)) (if-refuses P _ 3 _ (f 3 (omega arith) (omega arith))
-    (at-refuses P (f 4 (omega arith) (omega arith)) (f 5 (omega arith) (omega arith)) (f 6 (omega arith) (omega arith)) h card e (walk h card latest (e .key))))
+    if-refuses P _ 2 _ (f 2 (omega arith) (omega arith)) (if-refuses P _ 14 _ (f 14 (omega arith) (omega arith)) (if-refuses P _ 3 _ (f 3 (omega arith) (omega arith))
+    (at-refuses P (f 4 (omega arith) (omega arith)) (f 5 (omega arith) (omega arith)) (f 6 (omega arith) (omega arith)) h card e (walk h card latest (e .key)))))
 
-plan-refuses : (P : ℕ → Type 0) → ((c : ℕ) → 0 < c → c < 7 → P c) → (card : List ℕ) (e : Entry) → Refuses P (plan card e)
+plan-refuses : (P : ℕ → Type 0) → ((c : ℕ) → 0 < c → c < 15 → P c) → (card : List ℕ) (e : Entry) → Refuses P (plan card e)
 unfolding plan
 plan-refuses P f card e = for-refuses P f card e (headOf card)
 

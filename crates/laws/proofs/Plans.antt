@@ -10,7 +10,7 @@ use borrow.Author.Tests.{leb-false, ltb-false, eqb-false}
 use Rattle.rules.specs.declared.Entry.{Entry}
 use Rattle.rules.specs.declared.Head.{Head}
 use Rattle.rules.specs.Plain.{_&_, _or_, isNone}
-use Rattle.rules.specs.Sector.{isPost}
+use Rattle.rules.specs.Sector.{isPost, statusFits}
 use Rattle.rules.specs.Layout.{headOf}
 use Rattle.rules.specs.Walk.{Visit, walk, standsOn}
 use Rattle.rules.specs.Rewrite.{Rise}
@@ -48,25 +48,29 @@ pub plan-walk : (h : Head) (card : List ℕ) (e : Entry) (new : List ℕ) → he
 unfolding plan planFor
 plan-walk h card e new hq q =
     let w = walk h card latest (e .key) in
+    let odd = not (statusFits (e .status) (e .value)) in
     let late = refuseIf (leb (e .stamp) (stampOn h card)) 3 (planAt h card e w) in
-    let q1 : refuseIf (eqb (e .key) 0) 2 late ≡ accept new = rw hq at q in
-    let a = passed (eqb (e .key) 0) 2 late new q1 in
-    let b = passed (leb (e .stamp) (stampOn h card)) 3 (planAt h card e w) new (a .1) in
+    let q1 : refuseIf (eqb (e .key) 0) 2 (refuseIf odd 14 late) ≡ accept new = rw hq at q in
+    let a = passed (eqb (e .key) 0) 2 (refuseIf odd 14 late) new q1 in
+    let f = passed odd 14 late new (a .1) in
+    let b = passed (leb (e .stamp) (stampOn h card)) 3 (planAt h card e w) new (f .1) in
     at-walk h card e new w (b .1)
 
--- and its bib is from 1, its stamp above every stamp in the buckets
+-- and its bib is from 1, its stamp above every stamp in the buckets, and its status fits
 pub plan-inv : (h : Head) (card : List ℕ) (e : Entry) (new : List ℕ) (p : List Visit) → headOf card ≡ some h → walk h card latest (e .key) ≡ some p
-    → plan card e ≡ accept new → (1 ≤ e .key) × (stampOn h card < e .stamp) × (planOn h card e p ≡ accept new)
+    → plan card e ≡ accept new → (1 ≤ e .key) × (stampOn h card < e .stamp) × (planOn h card e p ≡ accept new) × (statusFits (e .status) (e .value) ≡ true)
 unfolding plan planFor planAt
 plan-inv h card e new p hq wq q =
     let idle = not (isPost e) & isNone (standsOn latest (e .key) p) in
     let on = refuseIf idle 5 (planOn h card e p) in
     let late = leb (e .stamp) (stampOn h card) in
-    let q1 : refuseIf (eqb (e .key) 0) 2 (refuseIf late 3 on) ≡ accept new = rw (hq, wq) at q in
-    let a = passed (eqb (e .key) 0) 2 (refuseIf late 3 on) new q1 in
-    let b = passed late 3 on new (a .1) in
+    let odd = not (statusFits (e .status) (e .value)) in
+    let q1 : refuseIf (eqb (e .key) 0) 2 (refuseIf odd 14 (refuseIf late 3 on)) ≡ accept new = rw (hq, wq) at q in
+    let a = passed (eqb (e .key) 0) 2 (refuseIf odd 14 (refuseIf late 3 on)) new q1 in
+    let f = passed odd 14 (refuseIf late 3 on) new (a .1) in
+    let b = passed late 3 on new (f .1) in
     let c = passed idle 5 (planOn h card e p) new (b .1) in
-    (from-one (e .key) (eqb-false (e .key) 0 (a .0)), leb-false (e .stamp) (stampOn h card) (b .0), c .1)
+    (from-one (e .key) (eqb-false (e .key) 0 (a .0)), leb-false (e .stamp) (stampOn h card) (b .0), c .1, not-false (statusFits (e .status) (e .value)) (f .0))
 
 -- the fresh buckets needed remain, and so does a blank of the log
 pub checked-inv : (h : Head) (full : Bool) (r : Rise) (new : List ℕ) → checked h full r ≡ accept new

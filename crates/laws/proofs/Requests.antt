@@ -17,7 +17,7 @@ use Rattle.rules.specs.Write.{plan, planFor, refuse, refuseIf}
 use Rattle.rules.specs.Batch.{request, requestFor, wellAsked}
 use Rattle.laws.proofs.Tools.{and-true, bool-cases, true-and}
 use Rattle.laws.proofs.Codec.{fields-encode}
-use Rattle.laws.proofs.Entries.{Asks}
+use Rattle.laws.proofs.Entries.{Asks, Kinds}
 use Rattle.laws.proofs.Bytes.{Bytes, fields-fit}
 
 or-true : (a b : Bool) → (a or b) ≡ true → (a ≡ true) ⊎ (b ≡ true)
@@ -28,23 +28,28 @@ pub well-asks : (r : List ℕ) → Bytes r → wellAsked r ≡ true → Asks (fi
 unfolding wellAsked Asks isPost
 well-asks r by q =
     let e = fields r in
-    let struck = eqb (e .kind) 2 & eqb (e .value) 0 in
-    let kinds = and-true (zeros (take 3 (drop 1 r))) (eqb (e .kind) 1 or struck) q .1 in (
-      fields-fit r by,
+    let bare = eqb (e .status) 0 & eqb (e .value) 0 in
+    let struck = eqb (e .kind) 2 & bare in
+    let kinds = and-true (zeros (take 2 (drop 2 r))) (eqb (e .kind) 1 or struck) q .1 in
+    let f = fields-fit r by in (
+      record { key = f .key; stamp = f .stamp; value = f .value },
       ⊎-elim
           (λ (p : eqb (e .kind) 1 ≡ true). inl (eqb-true (e .kind) 1 p))
-          (λ (s : struck ≡ true). let both = and-true (eqb (e .kind) 2) (eqb (e .value) 0) s in inr (eqb-true (e .kind) 2 (both .0), eqb-true (e .value) 0 (both .1)))
+          (λ (s : struck ≡ true).
+          let kind = and-true (eqb (e .kind) 2) bare s in
+          let both = and-true (eqb (e .status) 0) (eqb (e .value) 0) (kind .1) in
+          inr (eqb-true (e .kind) 2 (kind .0), eqb-true (e .status) 0 (both .0), eqb-true (e .value) 0 (both .1)))
           (or-true (eqb (e .kind) 1) struck kinds),
     )
 
 -- the bytes of a call's entry are asked well
-zero-bytes : (e : Entry) → zeros (take 3 (drop 1 (encode e))) ≡ true
+zero-bytes : (e : Entry) → zeros (take 2 (drop 2 (encode e))) ≡ true
 unfolding encode zeros
 zero-bytes e = refl
 
-well-kinds : (e : Entry) → (e .kind ≡ 1) ⊎ ((e .kind ≡ 2) × (e .value ≡ 0)) → (eqb (e .kind) 1 or (eqb (e .kind) 2 & eqb (e .value) 0)) ≡ true
+well-kinds : (e : Entry) → Kinds e → (eqb (e .kind) 1 or (eqb (e .kind) 2 & eqb (e .status) 0 & eqb (e .value) 0)) ≡ true
 well-kinds e (inl k) = rw (eq-eqb (e .kind) 1 k)
-well-kinds e (inr k) = ⊎-elim (λ (p : eqb (e .kind) 1 ≡ true). rw p) (λ (p : eqb (e .kind) 1 ≡ false). rw (p, eq-eqb (e .kind) 2 (k .0), eq-eqb (e .value) 0 (k .1))) (bool-cases (eqb (e .kind) 1))
+well-kinds e (inr k) = ⊎-elim (λ (p : eqb (e .kind) 1 ≡ true). rw p) (λ (p : eqb (e .kind) 1 ≡ false). rw (p, eq-eqb (e .kind) 2 (k .0), eq-eqb (e .status) 0 (k .1), eq-eqb (e .value) 0 (k .2))) (bool-cases (eqb (e .kind) 1))
 
 well-encode : (e : Entry) → Asks e → wellAsked (encode e) ≡ true
 unfolding wellAsked Asks isPost

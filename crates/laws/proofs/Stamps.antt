@@ -14,7 +14,7 @@ use Rattle.rules.specs.declared.Sector.the-variants.{Blank, Held}
 use Rattle.rules.specs.Bucket.{bucket, run}
 use Rattle.rules.specs.Layout.{base, sizeOf}
 use Rattle.rules.specs.Plain.{zeros}
-use Rattle.rules.specs.Sector.{decode, fields, legal, sectorAt}
+use Rattle.rules.specs.Sector.{decode, fields, legal, otherRow, sectorAt}
 use Rattle.rules.specs.Write.{stampOf, topStamp, stampOn}
 use Rattle.laws.proofs.Buckets.{bucket-in, bucket-raw, bucket-within}
 use Rattle.laws.proofs.Bytes.{held-inv}
@@ -42,7 +42,7 @@ top-le card t i (suc c) f =
 
 -- no row of the table has kind 0
 kind-some : (n : ℕ) (e : Entry) → legal n e ≡ true → e .kind ≡ 0 → ⊥
-unfolding legal
+unfolding legal otherRow
 kind-some n e l z = false-true (rw z at l)
 
 pub held-stamp : (n : ℕ) (s : List ℕ) (e : Entry) → decode n s ≡ Held e → stampOf s ≡ e .stamp

@@ -38,7 +38,7 @@ call-puts h card hq by e a new q =
     let pw = plan-walk h card e new hq q in
     let inv = plan-inv h card e new (pw .0) hq (pw .1) q in
     let above = inv .1 in
-    let fe = asks-fine (h .n) e a (inv .0) (omega arith) in
+    let fe = asks-fine (h .n) e a (inv .0) (omega arith) (inv .3) in
     let up = bucket-stamps h card size (stampOn h card) (omega arith) in
     let Q : Entry → Type 0 = λ d. d .stamp ≤ e .stamp in
     plan-chain h (hf .0 .n4096) Q e (pair-upto (e .stamp)) card size (fe, omega arith) (pw .0)

@@ -15,6 +15,7 @@ use Rattle.rules.specs.Rewrite.{keyOf, pair, limitOf}
 use Rattle.hand.specs.Hand.{entriesAt}
 use Rattle.hand.proofs.Turns.{slice-next}
 use Rattle.writer.specs.Rows.{puts}
+use Rattle.writer.specs.Words.{Narrow}
 use Rattle.level.specs.Level.{usedOf, pairsOf, AllSmall}
 
 module _ (part : List ℕ) (m R u : ℕ) (h : usedOf u part u (m - u) ≡ R) where
@@ -36,7 +37,7 @@ pub puts-end : (es : List Entry) (to : ℕ) (R card : List ℕ) (i j : ℕ) → 
 puts-end es to R card i j h a b = let e : j ≡ to = omega arith in rw (e, slice-empty to es) at h
 
 pub small-turn : (es : List Entry) (d : Entry) (to j : ℕ) → AllSmall (slice j to es) → j < to → to ≤ length es
-    → (getD es j d .kind < 256) × AllSmall (slice (j + 1) to es)
+    → Narrow (getD es j d) × AllSmall (slice (j + 1) to es)
 small-turn es d to j a lt le = rw (slice-next es d to j lt le) at a
 
 -- the key that a list begins with

@@ -1,5 +1,5 @@
 -- One level as the code goes through it: sectors counted and laid down in a row, pairs by number.
-use Prim.Native.Nat.{ℕ, zero, suc, _+_, _-_, _*_, _/_, _<_}
+use Prim.Native.Nat.{ℕ, zero, suc, _+_, _-_, _*_, _/_}
 use mathlib.Core.List.{List, [], _∷_}
 use lib.Dec.{ltb, eqb}
 use lib.ListN.{length, getD, take, drop}
@@ -7,6 +7,7 @@ use Rattle.rules.specs.declared.Entry.{Entry}
 use Rattle.rules.specs.Plain.{if}
 use Rattle.rules.specs.Rewrite.{pair}
 use Rattle.laws.proofs.Lists.{All}
+use Rattle.writer.specs.Words.{Narrow}
 use Rattle.level.specs.declared.Sent.{Sent}
 
 abbrev pub sentList : Sent → List Entry
@@ -26,6 +27,6 @@ pairsOf s td fresh es =
 abbrev pub needOf : ℕ → List Entry → ℕ
 needOf td es = if (ltb (length es) td) 1 2
 
--- kinds that one byte holds
+-- kinds and statuses that one byte holds
 abbrev pub AllSmall : List Entry → Type 0
-AllSmall es = All (λ e. e .kind < 256) es
+AllSmall es = All Narrow es

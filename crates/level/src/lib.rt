@@ -104,6 +104,7 @@ fn pair_at(h: Hand, i: usize, b: usize, stamp: u32) -> Entry
     let key = key_at(h, i);
     Entry {
         kind: 3,
+        status: 0,
         key,
         stamp,
         value: b as u32,

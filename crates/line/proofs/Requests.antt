@@ -13,8 +13,10 @@ use Rattle.rules.specs.Bench.{two, three, four, orTry}
 use Rattle.line.specs.declared.Request.the-variants.{Other}
 use Rattle.line.specs.declared.Pair.{Pair}
 use Rattle.line.specs.declared.Pair.the-variants.{Both, Neither}
+use Rattle.line.specs.declared.Four.{Four}
+use Rattle.line.specs.declared.Four.the-variants.{All, Not}
 use Rattle.line.proofs.Request.{the-type}
-use Rattle.line.specs.Requests.{requestOf, pairOf}
+use Rattle.line.specs.Requests.{requestOf, pairOf, fourOf}
 
 -- the call that a pair of numbers makes
 unfoldable pub callOf : (ℕ → ℕ → Call) → Pair → Option Call
@@ -29,16 +31,33 @@ two-of f (some (a ∷ [])) = refl
 two-of f (some (a ∷ b ∷ [])) = refl
 two-of f (some (a ∷ b ∷ c ∷ xs)) = refl
 
-pub three-of : (f : ℕ → ℕ → ℕ → Call) (x : ℕ) (o : Option (List ℕ)) → andThen (andThen o (λ xs. some (x ∷ xs))) (three f) ≡ callOf (f x) (pairOf o)
-unfolding three
-three-of f x none = two-of (f x) none
-three-of f x (some xs) = two-of (f x) (some xs)
+-- four numbers: two, and the pair behind them
+unfoldable pub joined : ℕ → ℕ → Pair → Four
+joined x y (Both a b) = All x y a b
+joined x y Neither = Not
 
-pub four-of : (f : ℕ → ℕ → ℕ → ℕ → Call) (x y : ℕ) (o : Option (List ℕ))
-    → andThen (andThen (andThen o (λ xs. some (y ∷ xs))) (λ xs. some (x ∷ xs))) (four f) ≡ callOf (f x y) (pairOf o)
-unfolding four three
-four-of f x y none = two-of (f x y) none
-four-of f x y (some xs) = two-of (f x y) (some xs)
+pub four-joined : (x y : ℕ) (o : Option (List ℕ)) → fourOf (andThen (andThen o (λ xs. some (y ∷ xs))) (λ xs. some (x ∷ xs))) ≡ joined x y (pairOf o)
+unfolding fourOf pairOf joined
+four-joined x y none = refl
+four-joined x y (some []) = refl
+four-joined x y (some (a ∷ [])) = refl
+four-joined x y (some (a ∷ b ∷ [])) = refl
+four-joined x y (some (a ∷ b ∷ c ∷ xs)) = refl
+
+-- and the call they make
+unfoldable pub calledBy : (ℕ → ℕ → ℕ → ℕ → Call) → Four → Option Call
+calledBy f (All a b c d) = some (f a b c d)
+calledBy f Not = none
+
+pub four-of : (f : ℕ → ℕ → ℕ → ℕ → Call) (o : Option (List ℕ)) → andThen o (four f) ≡ calledBy f (fourOf o)
+unfolding four three two fourOf calledBy
+four-of f none = refl
+four-of f (some []) = refl
+four-of f (some (a ∷ [])) = refl
+four-of f (some (a ∷ b ∷ [])) = refl
+four-of f (some (a ∷ b ∷ c ∷ [])) = refl
+four-of f (some (a ∷ b ∷ c ∷ d ∷ [])) = refl
+four-of f (some (a ∷ b ∷ c ∷ d ∷ e ∷ xs)) = refl
 
 -- of two requests the first that is one
 pub request-first : (a b : Option Call) → OneOf (0 ∷ 1 ∷ 2 ∷ 3 ∷ 4 ∷ []) (tagOf the-type (requestOf a)) → requestOf a ≡ requestOf (orTry a b)
@@ -53,7 +72,7 @@ pub request-next : (a b : Option Call) → requestOf a ≡ Other → requestOf b
 unfolding requestOf orTry
 request-next none b q = refl
 request-next (some (formatCall n m td ti)) b q = let z : _≡_ {A = ℕ} 0 1 = cc in absurd (omega arith)
-request-next (some (postCall bib at time)) b q = let z : _≡_ {A = ℕ} 0 1 = cc in absurd (omega arith)
+request-next (some (postCall bib at status time)) b q = let z : _≡_ {A = ℕ} 0 1 = cc in absurd (omega arith)
 request-next (some (strikeCall bib at)) b q = let z : _≡_ {A = ℕ} 0 1 = cc in absurd (omega arith)
 request-next (some (lookCall bib at)) b q = let z : _≡_ {A = ℕ} 0 1 = cc in absurd (omega arith)
 request-next (some (nextCall bib at)) b q = let z : _≡_ {A = ℕ} 0 1 = cc in absurd (omega arith)

@@ -5,14 +5,14 @@ ghost use Prim.Native.Nat.{_≤_};
 ghost use lib.ListN.{length, drop};
 ghost use Rattle.rules.specs.Calls.{formatCall, postCall};
 ghost use Rattle.rules.specs.Plain.{andThen};
-ghost use Rattle.rules.specs.Bench.{behind, numbers, formatNames, postNames, three, four, parsed};
+ghost use Rattle.rules.specs.Bench.{behind, numbers, formatNames, postNames, four, parsed};
 ghost use Rattle.line.specs.Fields.{digitIn, numberIn, runOn, fieldIn, restAt, endOf, pieceAt, lastOf};
-ghost use Rattle.line.specs.Requests.{requestOf, pairOf, otherCall};
+ghost use Rattle.line.specs.Requests.{requestOf, pairOf, fourOf, otherCall};
 
 // What a line asks for; `Other` where it is not of the grammar.
 pub enum Request {
     Format(u32, u32, u32, u32),
-    Post(u32, u32, u32),
+    Post(u32, u32, u32, u32),
     Strike(u32, u32),
     Look(u32, u32),
     Next(u32, u32),
@@ -34,6 +34,11 @@ pub enum Taken {
 pub enum Pair {
     Both(u32, u32),
     Neither,
+}
+
+pub enum Four {
+    All(u32, u32, u32, u32),
+    Not,
 }
 
 fn wide(x: u8) -> u64
@@ -142,36 +147,43 @@ fn pair_at(line: &[u8], at: usize, first: &[u8], second: &[u8]) -> Pair
     Pair::Both(a, b)
 }
 
+// Four names with their numbers, from the start of the line to its end.
+fn four_at(line: &[u8], first: &[u8], second: &[u8], third: &[u8], fourth: &[u8]) -> Four
+    ensures { λ r. ⌜ r ≡ fourOf (numbers (now (first .entry) ∷ now (second .entry) ∷ now (third .entry) ∷ now (fourth .entry) ∷ []) (now (line .entry))) ⌝ }
+{
+    let f = field(line, 0, first);
+    let Taken::Number(a, e) = f else {
+        return Four::Not;
+    };
+    let s = field(line, e, second);
+    let Taken::Number(b, i) = s else {
+        return Four::Not;
+    };
+    let p = pair_at(line, i, third, fourth);
+    let Pair::Both(c, d) = p else {
+        return Four::Not;
+    };
+    Four::All(a, b, c, d)
+}
+
 fn format_line(line: &[u8]) -> Request
     ensures { λ r. ⌜ r ≡ requestOf (andThen (numbers formatNames (now (line .entry))) (four formatCall)) ⌝ }
 {
-    let n = field(line, 0, b"op=format buckets=");
-    let Taken::Number(buckets, e) = n else {
-        return Request::Other;
-    };
-    let m = field(line, e, b" sectors=");
-    let Taken::Number(sectors, f) = m else {
-        return Request::Other;
-    };
-    let p = pair_at(line, f, b" td=", b" ti=");
-    let Pair::Both(td, ti) = p else {
+    let f = four_at(line, b"op=format buckets=", b" sectors=", b" td=", b" ti=");
+    let Four::All(buckets, sectors, td, ti) = f else {
         return Request::Other;
     };
     Request::Format(buckets, sectors, td, ti)
 }
 
 fn post_line(line: &[u8]) -> Request
-    ensures { λ r. ⌜ r ≡ requestOf (andThen (numbers postNames (now (line .entry))) (three postCall)) ⌝ }
+    ensures { λ r. ⌜ r ≡ requestOf (andThen (numbers postNames (now (line .entry))) (four postCall)) ⌝ }
 {
-    let b = field(line, 0, b"op=post bib=");
-    let Taken::Number(bib, e) = b else {
+    let f = four_at(line, b"op=post bib=", b" at=", b" status=", b" time=");
+    let Four::All(bib, at, status, time) = f else {
         return Request::Other;
     };
-    let p = pair_at(line, e, b" at=", b" time=");
-    let Pair::Both(at, time) = p else {
-        return Request::Other;
-    };
-    Request::Post(bib, at, time)
+    Request::Post(bib, at, status, time)
 }
 
 // The calls that have a bib and a stamp.

@@ -75,12 +75,13 @@ fn walk_to(card: &[u8], head: Head, root: u32, k: u32, x: u32, t: u32) -> Leg
 }
 
 pub fn given(e: Entry) -> Answer
-    ensures { λ r. ⌜ r ≡ answer 0 (e .key) (e .stamp) (e .value) 0 ⌝ }
+    ensures { λ r. ⌜ r ≡ answer 0 (e .key) (e .stamp) (e .status) (e .value) 0 ⌝ }
 {
     Answer {
         code: 0,
         bib: e.key,
         at: e.stamp,
+        status: e.status,
         time: e.value,
         reads: 0,
     }
@@ -93,6 +94,7 @@ pub fn at_end() -> Answer
         code: 0,
         bib: 0,
         at: 0,
+        status: 0,
         time: 0,
         reads: 0,
     }

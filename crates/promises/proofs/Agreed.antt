@@ -1,7 +1,7 @@
 -- A journal and a formatted card answer the same calls alike until either is full.
 use mathlib.Core.Path.{_≡_, refl, sym, ap, subst, _∙_}
 use mathlib.Core.Logic.{_⊎_, inl, inr, ⊎-elim}
-use mathlib.Core.Bool.{not}
+use mathlib.Core.Bool.{true, not}
 use mathlib.Core.Option.{Option, none, some}
 use mathlib.Core.List.{List, [], _∷_, _++_}
 use Prim.Native.Nat.{ℕ, _/_, _≤_, _<_}
@@ -18,7 +18,7 @@ use Rattle.rules.specs.Layout.{beginning}
 use Rattle.rules.specs.Look.{lookOn, lookIn, look}
 use Rattle.rules.specs.Next.{next, standingAbove}
 use Rattle.rules.specs.Plain.{_&_, isNone}
-use Rattle.rules.specs.Sector.{put, encode, isPost, postEntry, strikeEntry}
+use Rattle.rules.specs.Sector.{put, encode, isPost, postEntry, strikeEntry, statusFits}
 use Rattle.rules.specs.Walk.{left}
 use Rattle.rules.specs.Write.{Plan, refuse, accept, refuseIf, planCard, planAnswer, plan, planOn, post, strike, latest}
 use Rattle.laws.proofs.Entries.{Asks, asks-small, post-asks, strike-asks}
@@ -27,7 +27,7 @@ use Rattle.laws.proofs.Lists.{All}
 use Rattle.laws.proofs.Tools.{eq-or-ne}
 use Rattle.tree.proofs.Ends.{ends-here}
 use Rattle.tree.proofs.Found.{found-one, found-ext}
-use Rattle.tree.proofs.Hops.{given}
+use Rattle.laws.proofs.Tells.{given}
 use Rattle.tree.proofs.Keeps.{Keeps, keeps-next}
 use Rattle.tree.proofs.Seasoned.{said}
 use Rattle.promises.specs.Calls.{AsksSized, blankSlice, cardAnswers, journalAnswers, needed, remaining}
@@ -77,7 +77,7 @@ module _ (h : Head) (c : List ℕ) (st : Starts h 0 [] c) (es : List Entry) (d s
   unfolding ruled standsIn
   card-ruled e a =
       plan-ruled h d g 0 (lastStamp 0 es) ke e a
-      ∙ ap (λ o. refuseIf (eqb (e .key) 0) 2 (refuseIf (leb (e .stamp) (lastStamp 0 es)) 3 (refuseIf (not (isPost e) & isNone o) 5 (planOn h d e (p h d g 0 (lastStamp 0 es) ke e a)))))
+      ∙ ap (λ o. refuseIf (eqb (e .key) 0) 2 (refuseIf (not (statusFits (e .status) (e .value))) 14 (refuseIf (leb (e .stamp) (lastStamp 0 es)) 3 (refuseIf (not (isPost e) & isNone o) 5 (planOn h d e (p h d g 0 (lastStamp 0 es) ke e a))))))
       (plain latest (e .key) ∙ stands-plain latest (e .key) es)
 
   module _ (asks : List Ask) (rest : OnBoth c asks) where
@@ -98,11 +98,11 @@ module _ (h : Head) (c : List ℕ) (st : Starts h 0 [] c) (es : List Entry) (d s
     unfolding planAnswer refused
     six-journal x = inl (inr refl)
 
-    taken-both : (e : Entry) → Asks e → 1 ≤ e .key → lastStamp 0 es < e .stamp → length es < length slice / 16 → (new : List ℕ) → plan d e ≡ accept new
+    taken-both : (e : Entry) → Asks e → 1 ≤ e .key → lastStamp 0 es < e .stamp → statusFits (e .status) (e .value) ≡ true → length es < length slice / 16 → (new : List ℕ) → plan d e ≡ accept new
         → Both (accept new) (accept (put slice (length es) (encode e)))
     unfolding planAnswer planCard
-    taken-both e a key up lt new q =
-        inr (readless-refused 0, rest (es ++ (e ∷ [])) new (put slice (length es) (encode e)) (since-more c es d (e ∷ []) new since (new, a, q, refl)) (order-more slice es e w a key up lt))
+    taken-both e a key up fits lt new q =
+        inr (readless-refused 0, rest (es ++ (e ∷ [])) new (put slice (length es) (encode e)) (since-more c es d (e ∷ []) new since (new, a, q, refl)) (order-more slice es e w a key up fits lt))
 
     pub write-agrees : (e : Entry) → Asks e → Both (plan d e) (journalPlan slice e)
     write-agrees e a =
@@ -113,17 +113,17 @@ module _ (h : Head) (c : List ℕ) (st : Starts h 0 [] c) (es : List Entry) (d s
         ⊎-elim
         (λ (x : (x : ℕ) × (x ≡ 0 → ⊥) × (x ≡ 6 → ⊥) × ((q : Plan) → ruled es e q ≡ refuse x)).
         subst (λ q. Both q (journalPlan slice e)) (sym (cr ∙ x .3 on)) (subst (Both (refuse (x .0))) (sym (jr ∙ x .3 last)) (refused-both (x .0))))
-        (λ (x : (1 ≤ e .key) × (lastStamp 0 es < e .stamp) × ((q : Plan) → ruled es e q ≡ q)).
+        (λ (x : (1 ≤ e .key) × (lastStamp 0 es < e .stamp) × ((q : Plan) → ruled es e q ≡ q) × (statusFits (e .status) (e .value) ≡ true)).
         let cq : plan d e ≡ on = cr ∙ x .2 on in
         let jq : journalPlan slice e ≡ last = jr ∙ x .2 last in
-        let taken = on-taken h d g 0 (lastStamp 0 es) ke e a (x .0) (x .1) in
+        let taken = on-taken h d g 0 (lastStamp 0 es) ke e a (x .0) (x .1) (x .3) in
         ⊎-elim
         (λ (y : (needed h d e (taken .0) ≤ remaining h d) × ((new : List ℕ) × (on ≡ accept new))).
         ⊎-elim
         (λ (f : (length es ≡ length slice / 16) × (last ≡ refuse 6)). subst (Both (plan d e)) (sym (jq ∙ f .1)) (six-journal (plan d e)))
         (λ (r : (length es < length slice / 16) × (last ≡ accept (put slice (length es) (encode e)))).
         subst (λ q. Both q (journalPlan slice e)) (sym (cq ∙ y .1 .1))
-        (subst (Both (accept (y .1 .0))) (sym (jq ∙ r .1)) (taken-both e a (x .0) (x .1) (r .0) (y .1 .0) (cq ∙ y .1 .1))))
+        (subst (Both (accept (y .1 .0))) (sym (jq ∙ r .1)) (taken-both e a (x .0) (x .1) (x .3) (r .0) (y .1 .0) (cq ∙ y .1 .1))))
         (journal-room slice es e w))
         (λ (y : (remaining h d < needed h d e (taken .0)) × (on ≡ refuse 6)). subst (λ q. Both q (journalPlan slice e)) (sym (cq ∙ y .1)) (six-card (journalPlan slice e)))
         (taken .2))
@@ -163,8 +163,8 @@ module _ (h : Head) (c : List ℕ) (st : Starts h 0 [] c) (es : List Entry) (d s
 agrees : (h : Head) (c : List ℕ) → Starts h 0 [] c → (asks : List Ask) → AsksSized asks → OnBoth c asks
 unfolding cardAnswers journalAnswers called noted planned answered post strike journalPost journalStrike
 agrees h c st [] z es d slice q w = tt
-agrees h c st (postAsk bib at time ∷ asks) z es d slice q w =
-    write-agrees h c st es d slice q w asks (agrees h c st asks (z .1)) (postEntry bib at time) (post-asks bib at time (z .0 .0) (z .0 .1) (z .0 .2))
+agrees h c st (postAsk bib at status time ∷ asks) z es d slice q w =
+    write-agrees h c st es d slice q w asks (agrees h c st asks (z .1)) (postEntry bib at status time) (post-asks bib at status time (z .0 .0) (z .0 .1) (z .0 .2))
 agrees h c st (strikeAsk bib at ∷ asks) z es d slice q w =
     write-agrees h c st es d slice q w asks (agrees h c st asks (z .1)) (strikeEntry bib at) (strike-asks bib at (z .0 .0) (z .0 .1))
 agrees h c st (lookAsk bib t ∷ asks) z es d slice q w = inr (look-agrees h c st es d slice q w bib t (z .0), agrees h c st asks (z .1) es d slice q w)

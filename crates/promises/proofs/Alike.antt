@@ -24,7 +24,7 @@ use Rattle.tree.proofs.Walks.{walk-late, alike-length, alike-data, alike-refl, 
 use Rattle.tree.proofs.Climb.{upd}
 use Rattle.promises.specs.Promises.{CardsAnswerAlike}
 use Rattle.tree.proofs.Found.{found-ext, found-one}
-use Rattle.tree.proofs.Hops.{given}
+use Rattle.laws.proofs.Tells.{given}
 use Rattle.promises.specs.Calls.{Act, AllSized, cardAfter, accepted}
 use Rattle.promises.specs.Reading.{upTo, standsAsOf}
 use Rattle.promises.proofs.Begun.{Starts, alike-starts}

@@ -134,10 +134,10 @@ asks-same : (card : List ℕ) (ks : List Call) → EachSized ks → (requests : 
 unfolding cardOf answersTo oneByOne numbers requestsIn called post strike
 asks-same card [] z requests a = record { many = ap length a; card-is = refl; answers-are = refl }
 asks-same card (formatCall n m td ti ∷ ks) z requests a = absurd a
-asks-same card (postCall bib at time ∷ ks) z requests a =
-    let e = postEntry bib at time in
-    let k = postCall bib at time in
-    same-on card k ks e requests (a .0) refl (request-encode card e (post-asks bib at time (z .0 .0) (z .0 .1) (z .0 .2))) (a .1) (asks-same (called card k .card) ks (z .1) (a .0) (a .2))
+asks-same card (postCall bib at status time ∷ ks) z requests a =
+    let e = postEntry bib at status time in
+    let k = postCall bib at status time in
+    same-on card k ks e requests (a .0) refl (request-encode card e (post-asks bib at status time (z .0 .0) (z .0 .1) (z .0 .2))) (a .1) (asks-same (called card k .card) ks (z .1) (a .0) (a .2))
 asks-same card (strikeCall bib at ∷ ks) z requests a =
     let e = strikeEntry bib at in
     let k = strikeCall bib at in

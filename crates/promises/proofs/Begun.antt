@@ -19,7 +19,8 @@ use Rattle.laws.proofs.Lists.{All, all-map}
 use Rattle.laws.proofs.Zeros.{zero-eq}
 use Rattle.tree.proofs.Begin.{format-inv, format-keeps, nothing}
 use Rattle.tree.proofs.Keeps.{Keeps}
-use Rattle.tree.proofs.Seasoned.{Rec, said, to-passed, season-keeps, season-passed}
+use Rattle.laws.proofs.Tells.{Rec}
+use Rattle.tree.proofs.Seasoned.{said, to-passed, season-keeps, season-passed}
 use Rattle.tree.proofs.Standing.{standing-records}
 use Rattle.tree.proofs.Tree.{some-inj}
 use Rattle.promises.specs.Calls.{Formatted, Seasoned, Begun, BegunAlike}

@@ -19,13 +19,13 @@ use Rattle.rules.specs.Journal.{rising, journal, stampIn, standsIn, journalBlan
 use Rattle.rules.specs.Next.{standingAbove}
 use Rattle.rules.specs.Plain.{_&_, zeros, isNone, lastOf}
 use Rattle.rules.specs.Rewrite.{fill}
-use Rattle.rules.specs.Sector.{sectorAt, put, encode, decode, isPost, isData, postEntry, strikeEntry}
+use Rattle.rules.specs.Sector.{sectorAt, put, encode, decode, isPost, isData, postEntry, strikeEntry, statusFits}
 use Rattle.rules.specs.Walk.{left}
 use Rattle.rules.specs.Write.{Plan, refuse, accept, refuseIf, planCard, planAnswer, latest}
 use Rattle.laws.proofs.Blanks.{upFrom, blanks-from}
 use Rattle.laws.proofs.Blocks.{Each, blanks-each, fill-run}
 use Rattle.laws.proofs.Codec.{length-encode, held-zeros}
-use Rattle.laws.proofs.Entries.{Asks, asks-kind, asks-small, asks-fine, post-asks, strike-asks}
+use Rattle.laws.proofs.Entries.{Asks, asks-kind, asks-small, asks-fine, post-asks, strike-asks, bare-fits}
 use Rattle.laws.proofs.Journals.{InOrder, journal-order, order-journal, not-journal, journal-room}
 use Rattle.laws.proofs.Plans.{from-one}
 use Rattle.laws.proofs.Lists.{All, all-append, only-all}
@@ -35,7 +35,7 @@ use Rattle.laws.proofs.Tools.{bool-cases, true-and, and-true, none-some, le-or-
 use Rattle.laws.proofs.Used.{run-blank}
 use Rattle.laws.proofs.Zeros.{zero-sector, zeros-sixteen}
 use Rattle.tree.proofs.Found.{Found, data-next}
-use Rattle.tree.proofs.Hops.{given}
+use Rattle.laws.proofs.Tells.{given}
 use Rattle.promises.specs.Calls.{Sized, ifZero, Above, blankSlice, AsksSized, journalAfter, notedBy, acceptedIn}
 use Rattle.promises.specs.Reading.{standsAsOf, lastStamp}
 use Rattle.promises.specs.Promises.{Smallest, SomeBlank, NoBlank, JournalHoldsTheAccepted, JournalTellsTheTruth, JournalTakesUntilFull, SixMeansFull, JournalOverwritesNothing, JournalIsSettled, JournalReadsNothing}
@@ -57,7 +57,7 @@ last-in (e ∷ es) = last-of e es
 
 -- the tests of a post or strike in their order, and then the plan p
 unfoldable pub ruled : List Entry → Entry → Plan → Plan
-ruled es e p = refuseIf (eqb (e .key) 0) 2 (refuseIf (leb (e .stamp) (lastStamp 0 es)) 3 (refuseIf (not (isPost e) & isNone (standsIn latest (e .key) es)) 5 p))
+ruled es e p = refuseIf (eqb (e .key) 0) 2 (refuseIf (not (statusFits (e .status) (e .value))) 14 (refuseIf (leb (e .stamp) (lastStamp 0 es)) 3 (refuseIf (not (isPost e) & isNone (standsIn latest (e .key) es)) 5 p)))
 
 pub journal-ruled : (slice : List ℕ) (es : List Entry) (e : Entry) → journal slice ≡ some es → journalPlan slice e ≡ ruled es e (journalOn slice e (journalBlanks slice))
 unfolding journalPlan journalFor ruled
@@ -65,17 +65,19 @@ journal-ruled slice es e q = rw (q, last-in es)
 
 -- either a test refuses, whatever the plan, or the plan decides
 pub ruled-cases : (es : List Entry) (e : Entry)
-    → ((x : ℕ) × (x ≡ 0 → ⊥) × (x ≡ 6 → ⊥) × ((p : Plan) → ruled es e p ≡ refuse x)) ⊎ ((1 ≤ e .key) × (lastStamp 0 es < e .stamp) × ((p : Plan) → ruled es e p ≡ p))
+    → ((x : ℕ) × (x ≡ 0 → ⊥) × (x ≡ 6 → ⊥) × ((p : Plan) → ruled es e p ≡ refuse x)) ⊎ ((1 ≤ e .key) × (lastStamp 0 es < e .stamp) × ((p : Plan) → ruled es e p ≡ p) × (statusFits (e .status) (e .value) ≡ true))
 unfolding ruled refuseIf
-ruled-cases es e = go (eqb (e .key) 0) (leb (e .stamp) (lastStamp 0 es)) (not (isPost e) & isNone (standsIn latest (e .key) es)) refl refl
+ruled-cases es e =
+    go (eqb (e .key) 0) (statusFits (e .status) (e .value)) (leb (e .stamp) (lastStamp 0 es)) (not (isPost e) & isNone (standsIn latest (e .key) es)) refl refl refl
   where
-    go : (a b c : Bool) → eqb (e .key) 0 ≡ a → leb (e .stamp) (lastStamp 0 es) ≡ b
-        → ((x : ℕ) × (x ≡ 0 → ⊥) × (x ≡ 6 → ⊥) × ((p : Plan) → refuseIf a 2 (refuseIf b 3 (refuseIf c 5 p)) ≡ refuse x))
-        ⊎ ((1 ≤ e .key) × (lastStamp 0 es < e .stamp) × ((p : Plan) → refuseIf a 2 (refuseIf b 3 (refuseIf c 5 p)) ≡ p))
-    go true b c u v = inl (2, (λ z. omega arith), (λ z. omega arith), λ p. refl)
-    go false true c u v = inl (3, (λ z. omega arith), (λ z. omega arith), λ p. refl)
-    go false false true u v = inl (5, (λ z. omega arith), (λ z. omega arith), λ p. refl)
-    go false false false u v = inr (from-one (e .key) (eqb-false (e .key) 0 u), leb-false (e .stamp) (lastStamp 0 es) v, λ p. refl)
+    go : (a f b c : Bool) → eqb (e .key) 0 ≡ a → statusFits (e .status) (e .value) ≡ f → leb (e .stamp) (lastStamp 0 es) ≡ b
+        → ((x : ℕ) × (x ≡ 0 → ⊥) × (x ≡ 6 → ⊥) × ((p : Plan) → refuseIf a 2 (refuseIf (not f) 14 (refuseIf b 3 (refuseIf c 5 p))) ≡ refuse x))
+        ⊎ ((1 ≤ e .key) × (lastStamp 0 es < e .stamp) × ((p : Plan) → refuseIf a 2 (refuseIf (not f) 14 (refuseIf b 3 (refuseIf c 5 p))) ≡ p) × (statusFits (e .status) (e .value) ≡ true))
+    go true f b c u y v = inl (2, (λ z. omega arith), (λ z. omega arith), λ p. refl)
+    go false false b c u y v = inl (14, (λ z. omega arith), (λ z. omega arith), λ p. refl)
+    go false true true c u y v = inl (3, (λ z. omega arith), (λ z. omega arith), λ p. refl)
+    go false true false true u y v = inl (5, (λ z. omega arith), (λ z. omega arith), λ p. refl)
+    go false true false false u y v = inr (from-one (e .key) (eqb-false (e .key) 0 u), leb-false (e .stamp) (lastStamp 0 es) v, (λ p. refl), y)
 
 -- an entry behind the others
 rising-more : (s : ℕ) (es : List Entry) (e : Entry) → rising s es ≡ true → isData e ≡ true → lastStamp s es < e .stamp → rising s (es ++ (e ∷ [])) ≡ true
@@ -99,14 +101,14 @@ first-blank slice es w lt =
     let each = blanks-each (λ j. zeros (sectorAt slice j) ≡ true) slice 0 c (λ j a b z. z) in
     (subst (Each (λ j. zeros (sectorAt slice j) ≡ true)) are each .0, λ e. (ap (λ is. fill slice is (e ∷ [])) are, rw are (omega arith)))
 
-pub order-more : (slice : List ℕ) (es : List Entry) (e : Entry) → InOrder slice es → Asks e → 1 ≤ e .key → lastStamp 0 es < e .stamp → length es < length slice / 16
+pub order-more : (slice : List ℕ) (es : List Entry) (e : Entry) → InOrder slice es → Asks e → 1 ≤ e .key → lastStamp 0 es < e .stamp → statusFits (e .status) (e .value) ≡ true → length es < length slice / 16
     → InOrder (put slice (length es) (encode e)) (es ++ (e ∷ []))
-order-more slice es e w a key up lt =
+order-more slice es e w a key up fits lt =
     let c = length slice / 16 in
     let z = w .0 in
     let first = first-blank slice es w lt .1 e in
     let long : length (put slice (length es) (encode e)) ≡ length slice = length-put slice (length es) (encode e) (length-encode e) (omega arith) in
-    let whole = fill-run 0 slice 0 c es (e ∷ []) (asks-fine 0 e a key (omega arith), tt) (omega arith) (first .1) (w .1) in
+    let whole = fill-run 0 slice 0 c es (e ∷ []) (asks-fine 0 e a key (omega arith) fits, tt) (omega arith) (first .1) (w .1) in
     let is : run 0 (put slice (length es) (encode e)) 0 c ≡ some (es ++ (e ∷ [])) = ap (λ s. run 0 s 0 c) (sym (first .0)) ∙ whole in
     (ap (λ n. n % 16) long ∙ w .0, ap (λ n. run 0 (put slice (length es) (encode e)) 0 (n / 16)) long ∙ is, rising-more 0 es e (w .2) (asks-kind e a .1) up)
 
@@ -119,12 +121,12 @@ plan-order slice es e w a =
     = λ x n q. subst (λ p. InOrder (planCard slice p) (es ++ ifZero (planAnswer p .code) e)) (sym q) (none-more x n) in
     ⊎-elim
     (λ (x : (x : ℕ) × (x ≡ 0 → ⊥) × (x ≡ 6 → ⊥) × ((p : Plan) → ruled es e p ≡ refuse x)). refuses (x .0) (x .1) (is ∙ x .3 (journalOn slice e (journalBlanks slice))))
-    (λ (x : (1 ≤ e .key) × (lastStamp 0 es < e .stamp) × ((p : Plan) → ruled es e p ≡ p)).
+    (λ (x : (1 ≤ e .key) × (lastStamp 0 es < e .stamp) × ((p : Plan) → ruled es e p ≡ p) × (statusFits (e .status) (e .value) ≡ true)).
     ⊎-elim
     (λ (f : (length es ≡ length slice / 16) × (journalOn slice e (journalBlanks slice) ≡ refuse 6)).
     refuses 6 (λ z. omega arith) (is ∙ x .2 (journalOn slice e (journalBlanks slice)) ∙ f .1))
     (λ (r : (length es < length slice / 16) × (journalOn slice e (journalBlanks slice) ≡ accept (put slice (length es) (encode e)))).
-    subst (λ p. InOrder (planCard slice p) (es ++ ifZero (planAnswer p .code) e)) (sym (is ∙ x .2 (journalOn slice e (journalBlanks slice)) ∙ r .1)) (order-more slice es e w a (x .0) (x .1) (r .0)))
+    subst (λ p. InOrder (planCard slice p) (es ++ ifZero (planAnswer p .code) e)) (sym (is ∙ x .2 (journalOn slice e (journalBlanks slice)) ∙ r .1)) (order-more slice es e w a (x .0) (x .1) (x .3) (r .0)))
     (journal-room slice es e w))
     (ruled-cases es e)
   where
@@ -143,9 +145,9 @@ if-small (suc c) e a = tt
 
 ask-order : (slice : List ℕ) (es : List Entry) → InOrder slice es → (q : Ask) → Sized (callOf q) → InOrder (noted slice q .card) (es ++ notedBy slice q) × Small (notedBy slice q)
 unfolding noted notedBy planned answered journalPost journalStrike
-ask-order slice es w (postAsk bib at time) z =
-    let a = post-asks bib at time (z .0) (z .1) (z .2) in
-    (plan-order slice es (postEntry bib at time) w a, if-small (planAnswer (journalPlan slice (postEntry bib at time)) .code) (postEntry bib at time) a)
+ask-order slice es w (postAsk bib at status time) z =
+    let a = post-asks bib at status time (z .0) (z .1) (z .2) in
+    (plan-order slice es (postEntry bib at status time) w a, if-small (planAnswer (journalPlan slice (postEntry bib at status time)) .code) (postEntry bib at status time) a)
 ask-order slice es w (strikeAsk bib at) z =
     let a = strike-asks bib at (z .0) (z .1) in
     (plan-order slice es (strikeEntry bib at) w a, if-small (planAnswer (journalPlan slice (strikeEntry bib at)) .code) (strikeEntry bib at) a)
@@ -252,17 +254,17 @@ module _ (slice : List ℕ) (es : List Entry) (q : journal slice ≡ some es) (b
   abbrev on : Entry → Plan
   on e = journalOn slice e (journalBlanks slice)
 
-  post-on : (time : ℕ) → journalPost slice bib at time ≡ on (postEntry bib at time)
+  post-on : (status time : ℕ) → statusFits status time ≡ true → journalPost slice bib at status time ≡ on (postEntry bib at status time)
   unfolding journalPost ruled refuseIf isPost
-  post-on time =
-      let e = postEntry bib at time in
-      journal-ruled slice es e q ∙ rw (ne-eqb bib 0 (λ n. omega arith), lt-leb at (lastStamp 0 es) (above-last at 0 es (omega arith) up))
+  post-on status time fits =
+      let e = postEntry bib at status time in
+      journal-ruled slice es e q ∙ rw (ne-eqb bib 0 (λ n. omega arith), fits, lt-leb at (lastStamp 0 es) (above-last at 0 es (omega arith) up))
 
   strike-on : journalStrike slice bib at ≡ refuseIf (isNone (standsAsOf latest bib es)) 5 (on (strikeEntry bib at))
   unfolding journalStrike ruled refuseIf isPost standsIn
   strike-on =
       let e = strikeEntry bib at in
-      journal-ruled slice es e q ∙ rw (ne-eqb bib 0 (λ n. omega arith), lt-leb at (lastStamp 0 es) (above-last at 0 es (omega arith) up), stands-plain latest bib es)
+      journal-ruled slice es e q ∙ rw (ne-eqb bib 0 (λ n. omega arith), bare-fits, lt-leb at (lastStamp 0 es) (above-last at 0 es (omega arith) up), stands-plain latest bib es)
 
   struck : (o : Option Entry) (p r : Plan) → PlanIfBlank slice p → r ≡ refuseIf (isNone o) 5 p
       → ((o ≡ none) × (planAnswer r .code ≡ 5)) ⊎ ((o ≡ none → ⊥) × PlanIfBlank slice r)
@@ -272,9 +274,9 @@ module _ (slice : List ℕ) (es : List Entry) (q : journal slice ≡ some es) (b
 
 pub journal-takes-until-full : JournalTakesUntilFull
 unfolding noted planned
-journal-takes-until-full slice es q bib at time lo one up =
+journal-takes-until-full slice es q bib at status time lo one fits up =
     let w = journal-order slice es q in (
-      subst (PlanIfBlank slice) (sym (post-on slice es q bib at lo one up time)) (on-blank slice es (postEntry bib at time) w),
+      subst (PlanIfBlank slice) (sym (post-on slice es q bib at lo one up status time fits)) (on-blank slice es (postEntry bib at status time) w),
       struck slice es q bib at lo one up (standsAsOf latest bib es) (on slice es q bib at lo one up (strikeEntry bib at)) (journalStrike slice bib at)
           (on-blank slice es (strikeEntry bib at) w) (strike-on slice es q bib at lo one up),
     )
@@ -296,7 +298,7 @@ plan-six slice e = plan-by (λ p. planAnswer p .code ≡ 6 → NoBlank slice) sl
     let last = journalOn slice e (journalBlanks slice) in
     ⊎-elim
     (λ (x : (x : ℕ) × (x ≡ 0 → ⊥) × (x ≡ 6 → ⊥) × ((p : Plan) → ruled es e p ≡ refuse x)). λ six. absurd (x .2 (sym (ap (λ p. planAnswer p .code) (x .3 last)) ∙ six)))
-    (λ (x : (1 ≤ e .key) × (lastStamp 0 es < e .stamp) × ((p : Plan) → ruled es e p ≡ p)). λ six.
+    (λ (x : (1 ≤ e .key) × (lastStamp 0 es < e .stamp) × ((p : Plan) → ruled es e p ≡ p) × (statusFits (e .status) (e .value) ≡ true)). λ six.
     ⊎-elim
     (λ (t : SomeBlank slice × (planAnswer last .code ≡ 0)). let here = t .1 in let there : planAnswer last .code ≡ 6 = sym (ap (λ p. planAnswer p .code) (x .2 last)) ∙ six in absurd (omega (arith, here, there)))
     (λ (t : NoBlank slice × (planAnswer last .code ≡ 6)). t .0)
@@ -329,7 +331,7 @@ next-six k t (some es) z = go (standingAbove k (left t es)) z
 
 pub six-means-full : SixMeansFull
 unfolding noted planned answered journalPost journalStrike journalLook journalNext
-six-means-full slice (postAsk bib at time) z = plan-six slice (postEntry bib at time) z
+six-means-full slice (postAsk bib at status time) z = plan-six slice (postEntry bib at status time) z
 six-means-full slice (strikeAsk bib at) z = plan-six slice (strikeEntry bib at) z
 six-means-full slice (lookAsk bib t) z = absurd (look-six bib t (journal slice) z)
 six-means-full slice (nextAsk bib t) z = absurd (next-six bib t (journal slice) z)
@@ -346,7 +348,7 @@ plan-left slice e says = plan-by (λ p. Left slice (planCard slice p)) slice e (
     let last = journalOn slice e (journalBlanks slice) in
     ⊎-elim
     (λ (x : (x : ℕ) × (x ≡ 0 → ⊥) × (x ≡ 6 → ⊥) × ((p : Plan) → ruled es e p ≡ refuse x)). subst (λ p. Left slice (planCard slice p)) (sym (x .3 last)) ([], refl))
-    (λ (x : (1 ≤ e .key) × (lastStamp 0 es < e .stamp) × ((p : Plan) → ruled es e p ≡ p)).
+    (λ (x : (1 ≤ e .key) × (lastStamp 0 es < e .stamp) × ((p : Plan) → ruled es e p ≡ p) × (statusFits (e .status) (e .value) ≡ true)).
     ⊎-elim
     (λ (f : (length es ≡ length slice / 16) × (last ≡ refuse 6)). subst (λ p. Left slice (planCard slice p)) (sym (x .2 last ∙ f .1)) ([], refl))
     (λ (r : (length es < length slice / 16) × (last ≡ accept (put slice (length es) (encode e)))). subst (λ p. Left slice (planCard slice p)) (sym (x .2 last ∙ r .1)) (put-left slice es e w (r .0) says))
@@ -355,7 +357,7 @@ plan-left slice e says = plan-by (λ p. Left slice (planCard slice p)) slice e (
 
 pub journal-overwrites-nothing : JournalOverwritesNothing
 unfolding noted planned answered journalPost journalStrike zeros encode
-journal-overwrites-nothing slice (postAsk bib at time) = left-promise slice (planCard slice (journalPlan slice (postEntry bib at time))) (plan-left slice (postEntry bib at time) refl)
+journal-overwrites-nothing slice (postAsk bib at status time) = left-promise slice (planCard slice (journalPlan slice (postEntry bib at status time))) (plan-left slice (postEntry bib at status time) refl)
 journal-overwrites-nothing slice (strikeAsk bib at) = left-promise slice (planCard slice (journalPlan slice (strikeEntry bib at))) (plan-left slice (strikeEntry bib at) refl)
 journal-overwrites-nothing slice (lookAsk bib t) = left-promise slice slice ([], refl)
 journal-overwrites-nothing slice (nextAsk bib t) = left-promise slice slice ([], refl)
@@ -377,7 +379,7 @@ next-bare k t (some es) = go (standingAbove k (left t es))
 
 unchanged : (slice : List ℕ) (q : Ask) → (noted slice q .answer .code ≡ 0 → ⊥) → (noted slice q .card ≡ slice) × (noted slice q .answer ≡ refused (noted slice q .answer .code))
 unfolding noted planned answered journalLook journalNext
-unchanged slice (postAsk bib at time) f = (plan-same slice (journalPost slice bib at time) f, plan-bare (journalPost slice bib at time) f)
+unchanged slice (postAsk bib at status time) f = (plan-same slice (journalPost slice bib at status time) f, plan-bare (journalPost slice bib at status time) f)
 unchanged slice (strikeAsk bib at) f = (plan-same slice (journalStrike slice bib at) f, plan-bare (journalStrike slice bib at) f)
 unchanged slice (lookAsk bib t) f = (refl, look-bare bib t (journal slice) f)
 unchanged slice (nextAsk bib t) f = (refl, next-bare bib t (journal slice) f)
@@ -412,7 +414,7 @@ next-reads k t (some es) = go (standingAbove k (left t es))
 
 noted-reads : (slice : List ℕ) (q : Ask) → noted slice q .answer .reads ≡ 0
 unfolding noted planned answered journalLook journalNext
-noted-reads slice (postAsk bib at time) = plan-reads (journalPost slice bib at time)
+noted-reads slice (postAsk bib at status time) = plan-reads (journalPost slice bib at status time)
 noted-reads slice (strikeAsk bib at) = plan-reads (journalStrike slice bib at)
 noted-reads slice (lookAsk bib t) = look-reads bib t (journal slice)
 noted-reads slice (nextAsk bib t) = next-reads bib t (journal slice)

@@ -11,6 +11,7 @@ use Rattle.promises.proofs.Batches.{batch-is-one-by-one, batch-cut-in-t
 use Rattle.promises.proofs.Copied.{seen-through, copies-of-copies, copies-are-refused-alike, twice-is-once}
 use Rattle.promises.proofs.Journals.{journal-holds-the-accepted, journal-tells-the-truth, journal-takes-until-full, six-means-full, journal-overwrites-nothing, journal-is-settled, journal-reads-nothing}
 use Rattle.promises.proofs.Agreed.{journal-answers-alike}
+use Rattle.promises.proofs.Statuses.{status-fits-its-time, misfit-is-refused}
 
 pub all-kept : Promises
 all-kept =
@@ -52,4 +53,6 @@ all-kept =
       journal-overwrites-nothing = journal-overwrites-nothing;
       journal-is-settled = journal-is-settled;
       journal-reads-nothing = journal-reads-nothing;
+      status-fits-its-time = status-fits-its-time;
+      misfit-is-refused = misfit-is-refused;
     }

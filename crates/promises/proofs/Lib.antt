@@ -13,4 +13,5 @@ pub mod Batches
 pub mod Copied
 pub mod Journals
 pub mod Agreed
+pub mod Statuses
 pub mod Kept

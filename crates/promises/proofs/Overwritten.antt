@@ -146,8 +146,8 @@ plan-left card by e a (some h) hq (accept new) q =
 call-left : (card : List ℕ) → Bytes card → (k : Call) → Sized k → Left card (called card k .card)
 unfolding called planned answered format post strike
 call-left card by (formatCall n m td ti) s = format-left card (meant n m td ti) (formatFor card (meant n m td ti)) refl
-call-left card by (postCall bib at time) s =
-    plan-left card by (postEntry bib at time) (post-asks bib at time (s .0) (s .1) (s .2)) (headOf card) refl (plan card (postEntry bib at time)) refl
+call-left card by (postCall bib at status time) s =
+    plan-left card by (postEntry bib at status time) (post-asks bib at status time (s .0) (s .1) (s .2)) (headOf card) refl (plan card (postEntry bib at status time)) refl
 call-left card by (strikeCall bib at) s =
     plan-left card by (strikeEntry bib at) (strike-asks bib at (s .0) (s .1)) (headOf card) refl (plan card (strikeEntry bib at)) refl
 call-left card by (lookCall bib t) s = ([], refl)

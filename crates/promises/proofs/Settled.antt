@@ -75,7 +75,7 @@ to-bare (some e) on f = f (e .key)
 or-bare : (o : Option Entry) (h : Hop) (on : ℕ → Answer) → Bare (hopping h on) → Bare (hopping (hopOr o h) on)
 unfolding hopOr hopping
 or-bare none h on b = b
-or-bare (some e) h on b = bare-zero (answer 0 (e .key) (e .stamp) (e .value) 0) refl
+or-bare (some e) h on b = bare-zero (answer 0 (e .key) (e .stamp) (e .status) (e .value) 0) refl
 
 hop-bare : (k t x : ℕ) (w : Option (List Visit)) (on : ℕ → Answer) → ((y : ℕ) → Bare (on y)) → Bare (hopping (hop k t x w) on)
 unfolding hop hopping
@@ -100,7 +100,7 @@ plan-same card (accept new) n = absurd (n refl)
 pub refused-means-unchanged : RefusedMeansUnchanged
 unfolding called planned answered look next
 refused-means-unchanged card (formatCall n m td ti) f = (plan-same card (format card n m td ti) f, plan-bare (format card n m td ti) f)
-refused-means-unchanged card (postCall bib at time) f = (plan-same card (post card bib at time) f, plan-bare (post card bib at time) f)
+refused-means-unchanged card (postCall bib at status time) f = (plan-same card (post card bib at status time) f, plan-bare (post card bib at status time) f)
 refused-means-unchanged card (strikeCall bib at) f = (plan-same card (strike card bib at) f, plan-bare (strike card bib at) f)
 refused-means-unchanged card (lookCall bib t) f = (refl, look-bare bib t card (headOf card) f)
 refused-means-unchanged card (nextCall bib t) f = (refl, next-bare bib t card (headOf card) f)

@@ -86,7 +86,7 @@ plan-step c e a (accept new) n q = inr (e, a, q, refl)
 call-step : (h : Head) (c : List ℕ) → headOf c ≡ some h → (k : Call) → Sized k → Step c (taken c k) (called c k .card)
 unfolding called planned answered taken planCard post strike
 call-step h c hq (formatCall n m td ti) s = let f = format-refused c h hq n m td ti in inl (refl, ap (planCard c) (f .1))
-call-step h c hq (postCall bib at time) s = plan-step c (postEntry bib at time) (post-asks bib at time (s .0) (s .1) (s .2)) (plan c (postEntry bib at time)) (plan-numbered c (postEntry bib at time)) refl
+call-step h c hq (postCall bib at status time) s = plan-step c (postEntry bib at status time) (post-asks bib at status time (s .0) (s .1) (s .2)) (plan c (postEntry bib at status time)) (plan-numbered c (postEntry bib at status time)) refl
 call-step h c hq (strikeCall bib at) s = plan-step c (strikeEntry bib at) (strike-asks bib at (s .0) (s .1)) (plan c (strikeEntry bib at)) (plan-numbered c (strikeEntry bib at)) refl
 call-step h c hq (lookCall bib t) s = inl (refl, refl)
 call-step h c hq (nextCall bib t) s = inl (refl, refl)

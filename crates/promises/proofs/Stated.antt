@@ -1,4 +1,5 @@
 -- What a card says of itself.
+use mathlib.Core.Bool.{true}
 use mathlib.Core.Path.{_≡_, refl, sym, _∙_}
 use mathlib.Core.List.{List}
 use mathlib.Core.Option.{Option, none, some}
@@ -10,7 +11,7 @@ use Rattle.rules.specs.declared.Entry.{Entry}
 use Rattle.rules.specs.declared.Head.{Head}
 use Rattle.rules.specs.Answers.{refused}
 use Rattle.rules.specs.Layout.{headOf}
-use Rattle.rules.specs.Sector.{postEntry}
+use Rattle.rules.specs.Sector.{postEntry, statusFits}
 use Rattle.rules.specs.Walk.{Visit, walk}
 use Rattle.rules.specs.Write.{Plan, refuse, accept, refuseIf, planAnswer, planAt, planFor, plan, post, stampOn, latest}
 use Rattle.rules.specs.State.{stateIn, state}
@@ -38,10 +39,10 @@ at-not-three : (h : Head) (card : List ℕ) (e : Entry) (w : Option (List Visit)
 at-not-three h card e w = other-number (planAt h card e w) (at-refuses (λ c. c ≡ 3 → ⊥) (λ z. omega arith) (λ z. omega arith) (λ z. omega arith) h card e w)
 
 -- a post on a card with a head
-module _ (card : List ℕ) (h : Head) (q : headOf card ≡ some h) (e : Entry) (key : 1 ≤ e .key) where
+module _ (card : List ℕ) (h : Head) (q : headOf card ≡ some h) (e : Entry) (key : 1 ≤ e .key) (fits : statusFits (e .status) (e .value) ≡ true) where
   plan-is : plan card e ≡ refuseIf (leb (e .stamp) (stampOn h card)) 3 (planAt h card e (walk h card latest (e .key)))
   unfolding plan planFor refuseIf
-  plan-is = rw (q, ne-eqb (e .key) 0 (λ z. omega arith))
+  plan-is = rw (q, ne-eqb (e .key) 0 (λ z. omega arith), fits)
 
   three : e .stamp ≤ stampOn h card → planAnswer (plan card e) .code ≡ 3
   unfolding refuseIf planAnswer refused
@@ -51,19 +52,19 @@ module _ (card : List ℕ) (h : Head) (q : headOf card ≡ some h) (e : Entry) (
   unfolding refuseIf
   not-three lt = rw (plan-is, lt-leb (e .stamp) (stampOn h card) lt) (at-not-three h card e (walk h card latest (e .key)))
 
-abbrev Tells : List ℕ → ℕ → ℕ → ℕ → ℕ → Type 0
-Tells card bib at time last =
-    (at ≤ last → called card (postCall bib at time) .answer .code ≡ 3) × (last < at → called card (postCall bib at time) .answer .code ≡ 3 → ⊥)
+abbrev Tells : List ℕ → ℕ → ℕ → ℕ → ℕ → ℕ → Type 0
+Tells card bib at status time last =
+    (at ≤ last → called card (postCall bib at status time) .answer .code ≡ 3) × (last < at → called card (postCall bib at status time) .answer .code ≡ 3 → ⊥)
 
-in-tells : (card : List ℕ) (o : Option Head) → headOf card ≡ o → stateIn card o .code ≡ 0 → (bib at time : ℕ) → 1 ≤ bib
-    → Tells card bib at time (stateIn card o .last)
+in-tells : (card : List ℕ) (o : Option Head) → headOf card ≡ o → stateIn card o .code ≡ 0 → (bib at status time : ℕ) → 1 ≤ bib → statusFits status time ≡ true
+    → Tells card bib at status time (stateIn card o .last)
 unfolding stateIn called planned post
-in-tells card none q z bib at time lo = absurd (omega arith)
-in-tells card (some h) q z bib at time lo = (three card h q (postEntry bib at time) lo, not-three card h q (postEntry bib at time) lo)
+in-tells card none q z bib at status time lo fits = absurd (omega arith)
+in-tells card (some h) q z bib at status time lo fits = (three card h q (postEntry bib at status time) lo fits, not-three card h q (postEntry bib at status time) lo fits)
 
 pub state-tells-the-next : StateTellsTheNext
 unfolding state
-state-tells-the-next card z bib at time lo = in-tells card (headOf card) refl z bib at time lo
+state-tells-the-next card z bib at status time lo fits = in-tells card (headOf card) refl z bib at status time lo fits
 
 pub state-is-settled : StateIsSettled
 state-is-settled card one two a b = a ∙ sym b

@@ -1,6 +1,6 @@
 -- Nothing is refused without cause, on a card of our own making.
 use mathlib.Core.Option.{Option, none, some}
-use mathlib.Core.Bool.{Bool, not}
+use mathlib.Core.Bool.{Bool, not, true}
 use Prim.Native.Nat.{ℕ, _+_, _≤_, _<_, _-_}
 use mathlib.Core.Path.{refl, sym, ap, subst, _∙_, _≡_}
 use mathlib.Core.Logic.{inl, inr, ⊎-elim, _⊎_}
@@ -13,7 +13,7 @@ use Rattle.rules.specs.declared.Answer.{Answer}
 use Rattle.rules.specs.Rewrite.{Rise}
 use Rattle.rules.specs.Walk.{Visit, walk}
 use Rattle.rules.specs.Write.{topUsed, Plan, refuseIf, planOn, planAt, planFor, logFull, checked, refuse, rooted, climb, finish, plan, planAnswer, accept, post, strike, latest}
-use Rattle.rules.specs.Sector.{isPost, postEntry, strikeEntry, encode, put, rootEntry}
+use Rattle.rules.specs.Sector.{isPost, postEntry, strikeEntry, encode, put, rootEntry, statusFits}
 use Rattle.rules.specs.Plain.{isNone, _&_}
 use Rattle.rules.specs.Answers.{refused}
 use Rattle.rules.specs.Calls.{Call, postCall, strikeCall, called, planned}
@@ -23,7 +23,7 @@ use Rattle.rules.specs.Format.{meant}
 use Rattle.laws.proofs.Fresh.{freshAfter}
 use Rattle.laws.proofs.Tools.{le-or-lt, none-some}
 use Rattle.laws.proofs.Used.{used-within}
-use Rattle.laws.proofs.Entries.{Asks, asks-small, post-asks, strike-asks}
+use Rattle.laws.proofs.Entries.{Asks, asks-small, bare-fits, post-asks, strike-asks}
 use Rattle.tree.proofs.Ends.{ends-here}
 use Rattle.tree.proofs.Keeps.{Keeps, write-walk, keeps-write}
 use Rattle.tree.proofs.Tree.{some-inj}
@@ -71,12 +71,12 @@ unfolding planAnswer refused
 plan-answers h card e k plan is (p, w, inl t) = (p, w, inl (t .0, ap (λ (a : Answer). a .code) (is ∙ ap planAnswer (t .1 .1))))
 plan-answers h card e k plan is (p, w, inr t) = (p, w, inr (t .0, ap (λ (a : Answer). a .code) (is ∙ ap planAnswer (t .1))))
 
--- a write on a card of ours is refused with 2, 3 or 5, or goes on along the path of its walk
+-- a write on a card of ours is refused with 2, 14, 3 or 5, or goes on along the path of its walk
 module _ (h : Head) (card : List ℕ) (g : ℕ → ℕ → Option Entry) (begin s : ℕ) (ke : Keeps h card g begin s) (e : Entry) (asks : Asks e) where
   abbrev pub p : List Visit
   p = write-walk h card g begin s ke e asks .0
 
-  pub plan-ruled : plan card e ≡ refuseIf (eqb (e .key) 0) 2 (refuseIf (leb (e .stamp) s) 3 (refuseIf (not (isPost e) & isNone (g latest (e .key))) 5 (planOn h card e p)))
+  pub plan-ruled : plan card e ≡ refuseIf (eqb (e .key) 0) 2 (refuseIf (not (statusFits (e .status) (e .value))) 14 (refuseIf (leb (e .stamp) s) 3 (refuseIf (not (isPost e) & isNone (g latest (e .key))) 5 (planOn h card e p))))
   unfolding plan planFor planAt
   plan-ruled =
       let sm = ke .small in
@@ -85,27 +85,27 @@ module _ (h : Head) (card : List ℕ) (g : ℕ → ℕ → Option Entry) (begin 
       let there = ends-here (g latest) latest (e .key) 0 4294967296 (a .0) (a .2) in
       let same : a .0 ≡ p = some-inj (sym (a .1) ∙ write-walk h card g begin s ke e asks .1) in
       rw (ke .state .head, ke .top, a .1, there)
-      (ap (λ q. refuseIf (eqb (e .key) 0) 2 (refuseIf (leb (e .stamp) s) 3 (refuseIf (not (isPost e) & isNone (g latest (e .key))) 5 (planOn h card e q)))) same)
+      (ap (λ q. refuseIf (eqb (e .key) 0) 2 (refuseIf (not (statusFits (e .status) (e .value))) 14 (refuseIf (leb (e .stamp) s) 3 (refuseIf (not (isPost e) & isNone (g latest (e .key))) 5 (planOn h card e q))))) same)
 
-  module _ (key : 1 ≤ e .key) (above : s < e .stamp) where
+  module _ (key : 1 ≤ e .key) (above : s < e .stamp) (fits : statusFits (e .status) (e .value) ≡ true) where
     pub on-taken : PlanTaken h card e (planOn h card e p)
     on-taken = (
       p,
       write-walk h card g begin s ke e asks .1,
       ⊎-elim
-          (λ (le : freshAfter h card e p ≤ h .n + 1). inl (enough h card e p le, keeps-write h card g begin s ke e asks key above .1 le))
+          (λ (le : freshAfter h card e p ≤ h .n + 1). inl (enough h card e p le, keeps-write h card g begin s ke e asks key above fits .1 le))
           (λ (gt : h .n + 1 < freshAfter h card e p). inr (too-few h card e p gt, on-refuse h card e p gt))
           (le-or-lt (freshAfter h card e p) (h .n + 1)),
     )
 
-    -- of the refusals 1 to 5 only 5 is left, for a strike where nothing stands
+    -- of the refusals but 6 only 5 is left, for a strike where nothing stands
     plan-is : plan card e ≡ refuseIf (not (isPost e) & isNone (g latest (e .key))) 5 (planOn h card e p)
     unfolding refuseIf
-    plan-is = plan-ruled ∙ rw (ne-eqb (e .key) 0 (λ z. omega arith), lt-leb (e .stamp) s above)
+    plan-is = plan-ruled ∙ rw (ne-eqb (e .key) 0 (λ z. omega arith), fits, lt-leb (e .stamp) s above)
 
-post-plan : (b : Bool) (bib at time : ℕ) (p : Plan) → refuseIf (not (isPost (postEntry bib at time)) & b) 5 p ≡ p
+post-plan : (b : Bool) (bib at status time : ℕ) (p : Plan) → refuseIf (not (isPost (postEntry bib at status time)) & b) 5 p ≡ p
 unfolding refuseIf isPost
-post-plan b bib at time p = refl
+post-plan b bib at status time p = refl
 
 strike-plan : (b : Bool) (bib at : ℕ) (p : Plan) → refuseIf (not (isPost (strikeEntry bib at)) & b) 5 p ≡ refuseIf b 5 p
 unfolding isPost
@@ -113,17 +113,17 @@ strike-plan b bib at p = refl
 
 pub post-is-taken : PostIsTaken
 unfolding called planned post
-post-is-taken h begin rs card b calls s bib at time b1 a1 z up =
+post-is-taken h begin rs card b calls s bib at status time b1 a1 z fits up =
     let k = calls-keep h begin rs card (begun-starts h begin rs card b) calls s in
     let g = after (λ t. said rs) (accepted card calls) in
     let last = lastStamp begin (accepted card calls) in
     let d = cardAfter card calls in
-    let e = postEntry bib at time in
-    let asks = post-asks bib at time (z .0) (z .1) (z .2) in
+    let e = postEntry bib at status time in
+    let asks = post-asks bib at status time (z .0) (z .1) (z .2) in
     let above = k .1 at a1 up in
-    plan-answers h d e (postCall bib at time) (plan d e) refl (subst (PlanTaken h d e)
-    (sym (plan-is h d g begin last (k .0) e asks b1 above ∙ post-plan (isNone (g latest bib)) bib at time (planOn h d e (write-walk h d g begin last (k .0) e asks .0))))
-    (on-taken h d g begin last (k .0) e asks b1 above))
+    plan-answers h d e (postCall bib at status time) (plan d e) refl (subst (PlanTaken h d e)
+    (sym (plan-is h d g begin last (k .0) e asks b1 above fits ∙ post-plan (isNone (g latest bib)) bib at status time (planOn h d e (write-walk h d g begin last (k .0) e asks .0))))
+    (on-taken h d g begin last (k .0) e asks b1 above fits))
 
 -- a strike where o stands
 struck : (h : Head) (card : List ℕ) (e : Entry) (o : Option Entry) (k : Call) (q p : Plan) → called card k .answer ≡ planAnswer q → PlanTaken h card e p
@@ -147,8 +147,8 @@ strike-is-taken h begin rs card b calls s bib at b1 a1 z up =
     let above = k .1 at a1 up in
     let on = planOn h d e (write-walk h d g begin last (k .0) e asks .0) in
     let a32 = z .1 in
-    struck h d e (standsAsOf latest bib (rs ++ es)) (strikeCall bib at) (plan d e) on refl (on-taken h d g begin last (k .0) e asks b1 above)
-    (plan-is h d g begin last (k .0) e asks b1 above ∙ strike-plan (isNone (g latest bib)) bib at on
+    struck h d e (standsAsOf latest bib (rs ++ es)) (strikeCall bib at) (plan d e) on refl (on-taken h d g begin last (k .0) e asks b1 above bare-fits)
+    (plan-is h d g begin last (k .0) e asks b1 above bare-fits ∙ strike-plan (isNone (g latest bib)) bib at on
     ∙ ap (λ o. refuseIf (isNone o) 5 on) (calls-plain h begin rs card st calls s latest (omega arith) bib))
 
 -- on a card of ours, onto a target in order, only 6 is left

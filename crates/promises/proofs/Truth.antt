@@ -23,7 +23,7 @@ use Rattle.laws.proofs.Lists.{all-map}
 use Rattle.tree.proofs.Ends.{ends-here}
 use Rattle.tree.proofs.Found.{Found, found-ext}
 use Rattle.tree.proofs.Keeps.{Keeps, keeps-next}
-use Rattle.tree.proofs.Hops.{given}
+use Rattle.laws.proofs.Tells.{given}
 use Rattle.tree.proofs.Seasoned.{said}
 use Rattle.promises.specs.Promises.{LookTellsTheTruth, ReadsCountThePath, Smallest, NextTellsTheTruth, NothingBeforeTheBeginning}
 use Rattle.promises.specs.Calls.{Act, AllSized, cardAfter, Above, accepted}

@@ -47,10 +47,10 @@ abbrev pub BegunAlike : Head → List ℕ → List ℕ → Type 0
 BegunAlike h card other =
     (Formatted h card × Formatted h other) ⊎ ((begin : ℕ) × (rs : List Entry) × Seasoned h begin rs card × Seasoned h begin rs other)
 
--- bibs, stamps and times have 32 bits; t and format's numbers may be any
+-- bibs, stamps and times have 32 bits; a status, t and format's numbers may be any
 abbrev pub Sized : Call → Type 0
 Sized (formatCall n m td ti) = Unit {0}
-Sized (postCall bib at time) = (bib < 4294967296) × (at < 4294967296) × (time < 4294967296)
+Sized (postCall bib at status time) = (bib < 4294967296) × (at < 4294967296) × (time < 4294967296)
 Sized (strikeCall bib at) = (bib < 4294967296) × (at < 4294967296)
 Sized (lookCall bib t) = bib < 4294967296
 Sized (nextCall bib t) = bib < 4294967296
@@ -81,7 +81,7 @@ ifZero (suc c) e = []
 
 unfoldable pub taken : List ℕ → Call → List Entry
 taken card (formatCall n m td ti) = []
-taken card (postCall bib at time) = ifZero (called card (postCall bib at time) .answer .code) (postEntry bib at time)
+taken card (postCall bib at status time) = ifZero (called card (postCall bib at status time) .answer .code) (postEntry bib at status time)
 taken card (strikeCall bib at) = ifZero (called card (strikeCall bib at) .answer .code) (strikeEntry bib at)
 taken card (lookCall bib t) = []
 taken card (nextCall bib t) = []
@@ -104,7 +104,7 @@ accepted card (a ∷ acts) = takenBy card a ++ accepted (cardBy card a) acts
 abbrev pub Asks : List Call → List ℕ → Type 0
 Asks [] bytes = bytes ≡ []
 Asks (formatCall n m td ti ∷ ks) bytes = ⊥
-Asks (postCall bib at time ∷ ks) bytes = (rest : List ℕ) × (bytes ≡ encode (postEntry bib at time) ++ rest) × Asks ks rest
+Asks (postCall bib at status time ∷ ks) bytes = (rest : List ℕ) × (bytes ≡ encode (postEntry bib at status time) ++ rest) × Asks ks rest
 Asks (strikeCall bib at ∷ ks) bytes = (rest : List ℕ) × (bytes ≡ encode (strikeEntry bib at) ++ rest) × Asks ks rest
 Asks (lookCall bib t ∷ ks) bytes = ⊥
 Asks (nextCall bib t ∷ ks) bytes = ⊥
@@ -160,7 +160,7 @@ journalAfter slice [] = slice
 journalAfter slice (q ∷ qs) = journalAfter (noted slice q .card) qs
 
 unfoldable pub notedBy : List ℕ → Ask → List Entry
-notedBy slice (postAsk bib at time) = ifZero (noted slice (postAsk bib at time) .answer .code) (postEntry bib at time)
+notedBy slice (postAsk bib at status time) = ifZero (noted slice (postAsk bib at status time) .answer .code) (postEntry bib at status time)
 notedBy slice (strikeAsk bib at) = ifZero (noted slice (strikeAsk bib at) .answer .code) (strikeEntry bib at)
 notedBy slice (lookAsk bib t) = []
 notedBy slice (nextAsk bib t) = []

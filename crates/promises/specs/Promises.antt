@@ -13,7 +13,7 @@ use Rattle.rules.specs.declared.Answer.{Answer}
 use Rattle.rules.specs.declared.Digits.{Digits}
 use Rattle.rules.specs.declared.State.{State}
 use Rattle.rules.specs.Plain.{zeros}
-use Rattle.rules.specs.Sector.{sectorAt, put, postEntry, strikeEntry}
+use Rattle.rules.specs.Sector.{sectorAt, put, postEntry, strikeEntry, statusFits}
 use Rattle.rules.specs.Layout.{limits, sizeOf}
 use Rattle.rules.specs.Format.{meant}
 use Rattle.rules.specs.Walk.{Visit, walk}
@@ -35,8 +35,8 @@ use Rattle.scroll.specs.Scroll.{after, stepOf}
 use Rattle.promises.specs.Calls.{Accepted, Formatted, Begun, BegunAlike, Sized, OfBytes, Act, AllSized, EachSized, cardBy, cardAfter, accepted, Asks, oneByOne, numbers, Above, Quiet, needed, remaining, seasonNeeds, blankSlice, AsksSized, journalAfter, acceptedIn, cardAnswers, journalAnswers}
 use Rattle.promises.specs.Reading.{upTo, standsAsOf, lastStamp}
 
--- 1. From a card's beginning on, a look answers 0, the bib, and the stamp and time of the last entry for it stamped t or earlier if that
--- is a post, else stamp 0 and time 0; the entries are the records it began with and those accepted since. It never answers damage.
+-- 1. From a card's beginning on, a look answers 0, the bib, and stamp, status and time of the last entry for it stamped t or earlier if
+-- that is a post, else zeros; the entries are the records it began with and those accepted since. It never answers damage.
 abbrev pub LookTellsTheTruth : Type 0
 LookTellsTheTruth =
     (h : Head) (begin : ℕ) (rs : List Entry) (card : List ℕ) → Begun h begin rs card → (calls : List Act) → AllSized calls
@@ -50,12 +50,12 @@ ReadsCountThePath =
     → (bib t : ℕ) → 1 ≤ bib → bib < 4294967296 → begin ≤ t
     → (p : List Visit) × (walk h (cardAfter card calls) t bib ≡ some p) × (look (cardAfter card calls) bib t .reads ≡ length p)
 
--- an answer to next: the end where nothing stands above k, else the smallest bib that does, with its stamp and time
+-- an answer to next: the end where nothing stands above k, else the smallest bib that does, with its stamp, status and time
 abbrev pub Smallest : (ℕ → Option Entry) → ℕ → Answer → Type 0
 Smallest stands k a =
     (((b : ℕ) → k < b → b < 4294967296 → stands b ≡ none) × (a ≡ ended))
     ⊎ ((bib : ℕ) × (e : Entry) × (k < bib) × (stands bib ≡ some e) × ((b : ℕ) → k < b → b < bib → stands b ≡ none)
-    × (a ≡ answer 0 bib (e .stamp) (e .value) 0))
+    × (a ≡ answer 0 bib (e .stamp) (e .status) (e .value) 0))
 
 -- 2. A next answers the smallest bib above k that stands as of t by the same reading as a look's; the end exactly when none does.
 abbrev pub NextTellsTheTruth : Type 0
@@ -130,8 +130,9 @@ TakenUnlessFull h card e k =
 abbrev pub PostIsTaken : Type 0
 PostIsTaken =
     (h : Head) (begin : ℕ) (rs : List Entry) (card : List ℕ) → Begun h begin rs card → (calls : List Act) → AllSized calls
-    → (bib at time : ℕ) → 1 ≤ bib → begin < at → Sized (postCall bib at time) → Above at (accepted card calls)
-    → TakenUnlessFull h (cardAfter card calls) (postEntry bib at time) (postCall bib at time)
+    → (bib at status time : ℕ) → 1 ≤ bib → begin < at → Sized (postCall bib at status time) → statusFits status time ≡ true
+    → Above at (accepted card calls)
+    → TakenUnlessFull h (cardAfter card calls) (postEntry bib at status time) (postCall bib at status time)
 
 -- A strike likewise, where something stands; where nothing does it is refused with 5.
 abbrev pub StrikeIsTaken : Type 0
@@ -213,9 +214,9 @@ StateTellsTheTruth =
 -- What a state tells decides: a stamp is refused with 3 exactly where it is not above the last.
 abbrev pub StateTellsTheNext : Type 0
 StateTellsTheNext =
-    (card : List ℕ) → state card .code ≡ 0 → (bib at time : ℕ) → 1 ≤ bib
-    → (at ≤ state card .last → called card (postCall bib at time) .answer .code ≡ 3)
-    × (state card .last < at → called card (postCall bib at time) .answer .code ≡ 3 → ⊥)
+    (card : List ℕ) → state card .code ≡ 0 → (bib at status time : ℕ) → 1 ≤ bib → statusFits status time ≡ true
+    → (at ≤ state card .last → called card (postCall bib at status time) .answer .code ≡ 3)
+    × (state card .last < at → called card (postCall bib at status time) .answer .code ≡ 3 → ⊥)
 
 abbrev pub StateIsSettled : Type 0
 StateIsSettled = (card : List ℕ) (one two : State) → one ≡ state card → two ≡ state card → one ≡ two
@@ -307,7 +308,7 @@ SeasonIsSettled =
 
 -- an answer but for its reads, which are taken as 0
 unfoldable pub readless : Answer → Answer
-readless a = answer (a .code) (a .bib) (a .at) (a .time) 0
+readless a = answer (a .code) (a .bib) (a .at) (a .status) (a .time) 0
 
 -- the answers of a card and of a journal agree, one after the other, until either is 6
 abbrev pub AgreeUntilSix : List Answer → List Answer → Type 0
@@ -348,13 +349,13 @@ NoBlank slice = (i : ℕ) → 16 * i + 16 ≤ length slice → zeros (sectorAt s
 abbrev pub TakenIfBlank : List ℕ → Ask → Type 0
 TakenIfBlank slice q = (SomeBlank slice × (noted slice q .answer .code ≡ 0)) ⊎ (NoBlank slice × (noted slice q .answer .code ≡ 6))
 
--- 17. On any journal, whoever wrote it, a post with a bib from 1 and a stamp above 0 and every stamp there is accepted exactly where a sector
--- is blank, and else refused with 6; a strike likewise, where something stands, and where nothing does it is refused with 5.
+-- 17. On any journal, whoever wrote it, a post with a bib from 1, a status that fits its time and a stamp above 0 and every stamp there is
+-- accepted exactly where a sector is blank, and else refused with 6; a strike likewise, where something stands, and where nothing does it is refused with 5.
 abbrev pub JournalTakesUntilFull : Type 0
 JournalTakesUntilFull =
     (slice : List ℕ) (entries : List Entry) → journal slice ≡ some entries
-    → (bib at time : ℕ) → 1 ≤ bib → 1 ≤ at → Above at entries
-    → TakenIfBlank slice (postAsk bib at time)
+    → (bib at status time : ℕ) → 1 ≤ bib → 1 ≤ at → statusFits status time ≡ true → Above at entries
+    → TakenIfBlank slice (postAsk bib at status time)
     × (((standsAsOf latest bib entries ≡ none) × (noted slice (strikeAsk bib at) .answer .code ≡ 5))
     ⊎ ((standsAsOf latest bib entries ≡ none → ⊥) × TakenIfBlank slice (strikeAsk bib at)))
 
@@ -381,6 +382,19 @@ abbrev pub JournalReadsNothing : Type 0
 JournalReadsNothing =
     (slice : List ℕ) → ((bib t : ℕ) → (noted slice (lookAsk bib t) .card ≡ slice) × (noted slice (nextAsk bib t) .card ≡ slice))
     × ((q : Ask) → noted slice q .answer .reads ≡ 0)
+
+-- 20. A result is a time or a status, never both: the status that a look or a next answers is one of 0 to 3, and beside 1 to 3 the time
+-- is 0; on every card.
+abbrev pub StatusFitsItsTime : Type 0
+StatusFitsItsTime =
+    (card : List ℕ) → OfBytes card → (bib t : ℕ)
+    → (statusFits (look card bib t .status) (look card bib t .time) ≡ true) × (statusFits (next card bib t .status) (next card bib t .time) ≡ true)
+
+-- A post of any other is refused with 14, whatever its stamp, on every card that has a head.
+abbrev pub MisfitIsRefused : Type 0
+MisfitIsRefused =
+    (card : List ℕ) → state card .code ≡ 0 → (bib at status time : ℕ) → 1 ≤ bib → statusFits status time ≡ false
+    → called card (postCall bib at status time) .answer ≡ refused 14
 
 -- All that is promised. `promised` in src/ asks for a term of it, so that a promise without its proof fails the check.
 pub record Promises : Type 0 where
@@ -421,3 +435,5 @@ pub record Promises : Type 0 where
   pub journal-overwrites-nothing : JournalOverwritesNothing
   pub journal-is-settled : JournalIsSettled
   pub journal-reads-nothing : JournalReadsNothing
+  pub status-fits-its-time : StatusFitsItsTime
+  pub misfit-is-refused : MisfitIsRefused

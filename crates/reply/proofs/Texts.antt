@@ -50,6 +50,6 @@ start-laid out new v w r e p q = (p ∙ rw (q, e), rw (← e) (omega arith))
 -- the fields of an answer, one after the other
 pub fields-line : (a : Answer) →
     (text "code=" ++ decimal (a .code)) ++ (text " bib=" ++ decimal (a .bib)) ++ (text " at=" ++ decimal (a .at))
-    ++ (text " time=" ++ decimal (a .time)) ++ (text " reads=" ++ decimal (a .reads)) ++ text "\n" ≡ answerLine a
+    ++ (text " status=" ++ decimal (a .status)) ++ (text " time=" ++ decimal (a .time)) ++ (text " reads=" ++ decimal (a .reads)) ++ text "\n" ≡ answerLine a
 unfolding answerLine
 fields-line a = simp append-assoc

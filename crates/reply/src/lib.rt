@@ -53,15 +53,16 @@ fn field(out: &mut [u8], at: usize, name: &[u8], x: u32) -> usize
     number(out, e, x)
 }
 
-// The line of an answer at the buffer's start, and its length. Five fields of ten digits and their names are 78 bytes.
+// The line of an answer at the buffer's start, and its length. Six fields of ten digits and their names are 96 bytes.
 pub fn write_answer(out: &mut [u8], a: Answer) -> usize
-    requires { ⌜ 80 ≤ length (now out) ⌝ }
-    ensures { λ r. ⌜ (now (out .exit) ≡ answerLine a ++ drop r (now (out .entry))) × (r ≡ length (answerLine a)) × (r ≤ 80) ⌝ }
+    requires { ⌜ 96 ≤ length (now out) ⌝ }
+    ensures { λ r. ⌜ (now (out .exit) ≡ answerLine a ++ drop r (now (out .entry))) × (r ≡ length (answerLine a)) × (r ≤ 96) ⌝ }
 {
     let b = field(out, 0, b"code=", a.code);
     let c = field(out, b, b" bib=", a.bib);
     let d = field(out, c, b" at=", a.at);
-    let e = field(out, d, b" time=", a.time);
-    let f = field(out, e, b" reads=", a.reads);
-    put(out, f, b"\n")
+    let e = field(out, d, b" status=", a.status);
+    let f = field(out, e, b" time=", a.time);
+    let g = field(out, f, b" reads=", a.reads);
+    put(out, g, b"\n")
 }

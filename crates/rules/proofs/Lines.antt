@@ -48,14 +48,14 @@ same (x ∷ xs) [] = false
 same (x ∷ xs) (y ∷ ys) = eqb x y & same xs ys
 
 unfoldable pub sameAnswer : Answer → Answer → Bool
-sameAnswer a b = same (a .code ∷ a .bib ∷ a .at ∷ a .time ∷ a .reads ∷ []) (b .code ∷ b .bib ∷ b .at ∷ b .time ∷ b .reads ∷ [])
+sameAnswer a b = same (a .code ∷ a .bib ∷ a .at ∷ a .status ∷ a .time ∷ a .reads ∷ []) (b .code ∷ b .bib ∷ b .at ∷ b .status ∷ b .time ∷ b .reads ∷ [])
 
 unfoldable pub sameSector : Sector → Sector → Bool
 sameSector Blank Blank = true
 sameSector Blank (Held e) = false
 sameSector Blank Damaged = false
 sameSector (Held d) Blank = false
-sameSector (Held d) (Held e) = same (d .kind ∷ d .key ∷ d .stamp ∷ d .value ∷ []) (e .kind ∷ e .key ∷ e .stamp ∷ e .value ∷ [])
+sameSector (Held d) (Held e) = same (d .kind ∷ d .status ∷ d .key ∷ d .stamp ∷ d .value ∷ []) (e .kind ∷ e .status ∷ e .key ∷ e .stamp ∷ e .value ∷ [])
 sameSector (Held d) Damaged = false
 sameSector Damaged s = false
 

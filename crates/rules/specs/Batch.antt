@@ -11,11 +11,12 @@ use Rattle.rules.specs.Sector.{sectorAt, fields, isPost}
 use Rattle.rules.specs.Layout.{headOf}
 use Rattle.rules.specs.Write.{Plan, refuse, refuseIf, planCard, planAnswer, plan}
 
--- "a request whose kind is not 1 or 2, with bytes 1..3 not zero, or a strike with a value, answers 11": any other is asked well
+-- "a request whose kind is not 1 or 2, with bytes [2..3] not zero, or a strike with a value, answers 11", and byte 1 of a strike:
+-- any other is asked well
 unfoldable pub wellAsked : List ℕ → Bool
 wellAsked r =
     let e = fields r in
-    zeros (take 3 (drop 1 r)) & (isPost e or (eqb (e .kind) 2 & eqb (e .value) 0))
+    zeros (take 2 (drop 2 r)) & (isPost e or (eqb (e .kind) 2 & eqb (e .status) 0 & eqb (e .value) 0))
 
 -- 11 is "after 1 and ahead of 2"; else a request is answered as post and strike are
 unfoldable pub requestFor : List ℕ → List ℕ → Option Head → Plan

@@ -64,7 +64,7 @@ unfoldable pub formatNames : List (List ℕ)
 formatNames = text "op=format buckets=" ∷ text " sectors=" ∷ text " td=" ∷ text " ti=" ∷ []
 
 unfoldable pub postNames : List (List ℕ)
-postNames = text "op=post bib=" ∷ text " at=" ∷ text " time=" ∷ []
+postNames = text "op=post bib=" ∷ text " at=" ∷ text " status=" ∷ text " time=" ∷ []
 
 unfoldable pub strikeNames : List (List ℕ)
 strikeNames = text "op=strike bib=" ∷ text " at=" ∷ []
@@ -98,7 +98,7 @@ orTry (some c) k = some c
 unfoldable pub parsed : List ℕ → Option Call
 parsed line =
     orTry (andThen (numbers formatNames line) (four formatCall))
-    (orTry (andThen (numbers postNames line) (three postCall))
+    (orTry (andThen (numbers postNames line) (four postCall))
     (orTry (andThen (numbers strikeNames line) (two strikeCall))
     (orTry (andThen (numbers lookNames line) (two lookCall))
     (andThen (numbers nextNames line) (two nextCall)))))
@@ -115,7 +115,7 @@ firstFormat size n m td ti = if (leb size 65536) (firstCard (format (replicate s
 -- "Its card [..] has length 0 until a format is accepted [..] a later format is given the card's length"
 unfoldable pub benchCall : List ℕ → Call → Done
 benchCall [] (formatCall n m td ti) = firstFormat (sizeOf (meant n m td ti)) n m td ti
-benchCall [] (postCall bib at time) = called [] (postCall bib at time)
+benchCall [] (postCall bib at status time) = called [] (postCall bib at status time)
 benchCall [] (strikeCall bib at) = called [] (strikeCall bib at)
 benchCall [] (lookCall bib at) = called [] (lookCall bib at)
 benchCall [] (nextCall bib at) = called [] (nextCall bib at)
@@ -137,11 +137,12 @@ decimalOn (suc f) x after = elim (ltb x 10) [ true ↦ (48 + x) ∷ after | fals
 unfoldable pub decimal : ℕ → List ℕ
 decimal x = decimalOn (suc x) x []
 
--- "Fields: answer number, bib, the record's stamp, its time, buckets read"
+-- "Fields: answer number, bib, the record's stamp, its time, buckets read"; "bench lines get status= before time="
 unfoldable pub answerLine : Answer → List ℕ
 answerLine a =
     text "code=" ++ (decimal (a .code) ++ (text " bib=" ++ (decimal (a .bib) ++ (text " at=" ++ (decimal (a .at)
-    ++ (text " time=" ++ (decimal (a .time) ++ (text " reads=" ++ (decimal (a .reads) ++ text "\n")))))))))
+    ++ (text " status=" ++ (decimal (a .status) ++ (text " time=" ++ (decimal (a .time)
+    ++ (text " reads=" ++ (decimal (a .reads) ++ text "\n")))))))))))
 
 -- "It reads standard input by lines"; "A final line without its newline counts unless empty"
 unfoldable pub startWith : ℕ → List (List ℕ) → List (List ℕ)

@@ -8,7 +8,7 @@ use lib.Dec.{leb, ltb, eqb}
 use Rattle.rules.specs.declared.Entry.{Entry}
 use Rattle.rules.specs.declared.Answer.{Answer}
 use Rattle.rules.specs.Plain.{if, _&_, andThen, isNone, lastOf}
-use Rattle.rules.specs.Sector.{isPost, isData, postEntry, strikeEntry}
+use Rattle.rules.specs.Sector.{isPost, isData, statusFits, postEntry, strikeEntry}
 use Rattle.rules.specs.Bucket.{run, blanks}
 use Rattle.rules.specs.Walk.{left, copyOf, standing}
 use Rattle.rules.specs.Answers.{answer, refused, sheet, ended}
@@ -47,20 +47,21 @@ journalBlanks slice = blanks slice 0 (length slice / 16)
 unfoldable pub journalOn : List ℕ → Entry → List ℕ → Plan
 journalOn slice e is = refuseIf (eqb (length is) 0) 6 (accept (fill slice is (e ∷ [])))
 
--- 1, 2, 3, 5, 6, as the card has them
+-- 1, 2, 14, 3, 5, 6, as the card has them
 unfoldable pub journalFor : List ℕ → Entry → Option (List Entry) → Plan
 journalFor slice e none = refuse 1
 journalFor slice e (some es) =
     refuseIf (eqb (e .key) 0) 2
+    (refuseIf (not (statusFits (e .status) (e .value))) 14
     (refuseIf (leb (e .stamp) (stampIn (lastOf es))) 3
     (refuseIf (not (isPost e) & isNone (standsIn latest (e .key) es)) 5
-    (journalOn slice e (journalBlanks slice))))
+    (journalOn slice e (journalBlanks slice)))))
 
 unfoldable pub journalPlan : List ℕ → Entry → Plan
 journalPlan slice e = journalFor slice e (journal slice)
 
-unfoldable pub journalPost : List ℕ → ℕ → ℕ → ℕ → Plan
-journalPost slice bib at time = journalPlan slice (postEntry bib at time)
+unfoldable pub journalPost : List ℕ → ℕ → ℕ → ℕ → ℕ → Plan
+journalPost slice bib at status time = journalPlan slice (postEntry bib at status time)
 
 unfoldable pub journalStrike : List ℕ → ℕ → ℕ → Plan
 journalStrike slice bib at = journalPlan slice (strikeEntry bib at)
@@ -76,7 +77,7 @@ journalLook slice bib t = journalLookIn bib t (journal slice)
 -- the record that is next, or the end
 unfoldable pub nextOf : Option Entry → Answer
 nextOf none = ended
-nextOf (some e) = answer 0 (e .key) (e .stamp) (e .value) 0
+nextOf (some e) = answer 0 (e .key) (e .stamp) (e .status) (e .value) 0
 
 -- 1; else the smallest standing bib above k
 unfoldable pub journalNextIn : ℕ → ℕ → Option (List Entry) → Answer

@@ -42,7 +42,7 @@ hopTo (some e) = again (e .key)
 
 unfoldable pub hopOr : Option Entry → Hop → Hop
 hopOr none h = h
-hopOr (some e) h = final (answer 0 (e .key) (e .stamp) (e .value) 0)
+hopOr (some e) h = final (answer 0 (e .key) (e .stamp) (e .status) (e .value) 0)
 
 unfoldable pub hop : ℕ → ℕ → ℕ → Option (List Visit) → Hop
 hop k t x none = final (refused 4)

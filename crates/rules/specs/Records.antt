@@ -17,7 +17,7 @@ abbrev pub roll : ℕ → List Entry → Roll
 roll code es = record { code = code; records = es }
 
 abbrev pub recordOf : Answer → Entry
-recordOf a = postEntry (a .bib) (a .at) (a .time)
+recordOf a = postEntry (a .bib) (a .at) (a .status) (a .time)
 
 unfoldable pub rollOn : Answer → (ℕ → Roll) → Roll
 rollOn a on = if (eqb (a .bib) 0) (roll (a .code) []) (roll (on (a .bib) .code) (recordOf a ∷ on (a .bib) .records))

@@ -9,7 +9,7 @@ use Rattle.rules.specs.declared.Entry.{Entry}
 use Rattle.rules.specs.declared.Head.{Head}
 use Rattle.rules.specs.declared.Answer.{Answer}
 use Rattle.rules.specs.Plain.{if, _&_, _or_, isNone}
-use Rattle.rules.specs.Sector.{sectorAt, word, isPost, postEntry, strikeEntry, rootEntry}
+use Rattle.rules.specs.Sector.{sectorAt, word, isPost, statusFits, postEntry, strikeEntry, rootEntry}
 use Rattle.rules.specs.Layout.{headOf, base}
 use Rattle.rules.specs.Bucket.{blanksOf, logBlanks, unwritten}
 use Rattle.rules.specs.Walk.{Visit, walk, standsOn}
@@ -103,19 +103,20 @@ unfoldable pub planAt : Head → List ℕ → Entry → Option (List Visit) → 
 planAt h card e none = refuse 4
 planAt h card e (some p) = refuseIf (not (isPost e) & isNone (standsOn latest (e .key) p)) 5 (planOn h card e p)
 
--- 1, 2, 3, then 4 and on
+-- 1, 2, 14 ("a status above 3, or a nonzero time beside status 1 to 3"), 3, then 4 and on
 unfoldable pub planFor : List ℕ → Entry → Option Head → Plan
 planFor card e none = refuse 1
 planFor card e (some h) =
     refuseIf (eqb (e .key) 0) 2
+    (refuseIf (not (statusFits (e .status) (e .value))) 14
     (refuseIf (leb (e .stamp) (stampOn h card)) 3
-    (planAt h card e (walk h card latest (e .key))))
+    (planAt h card e (walk h card latest (e .key)))))
 
 unfoldable pub plan : List ℕ → Entry → Plan
 plan card e = planFor card e (headOf card)
 
-unfoldable pub post : List ℕ → ℕ → ℕ → ℕ → Plan
-post card bib at time = plan card (postEntry bib at time)
+unfoldable pub post : List ℕ → ℕ → ℕ → ℕ → ℕ → Plan
+post card bib at status time = plan card (postEntry bib at status time)
 
 unfoldable pub strike : List ℕ → ℕ → ℕ → Plan
 strike card bib at = plan card (strikeEntry bib at)

@@ -1,8 +1,9 @@
 // The values that the rules speak of, and that the card's functions hand on.
 
-// A written sector's four fields.
+// A written sector's five fields.
 pub struct Entry {
     pub kind: u32,
+    pub status: u32,
     pub key: u32,
     pub stamp: u32,
     pub value: u32,
@@ -29,6 +30,7 @@ pub struct Answer {
     pub code: u32,
     pub bib: u32,
     pub at: u32,
+    pub status: u32,
     pub time: u32,
     pub reads: u32,
 }

@@ -130,7 +130,7 @@ pub pass-turn : (n i : ℕ) (part : List ℕ) (blank : Bool) (w : List Sector) �
 unfolding decode
 pass-turn n i part blank w h d inv =
     let s = sectorAt part (i - 1) in
-    rw (back-step n i part h, d) (judged-written (zeros s) (zeros (take 3 (drop 1 s)) & legal n (fields s)) (fields s) (lastFirst n part (i - 1)) ∙ (rw (back-step n i part h) at inv))
+    rw (back-step n i part h, d) (judged-written (zeros s) (zeros (take 2 (drop 2 s)) & legal n (fields s)) (fields s) (lastFirst n part (i - 1)) ∙ (rw (back-step n i part h) at inv))
 
 -- no entry, as an else has it
 module _ (ok : Entry → Bool) where

@@ -27,7 +27,7 @@ judged-blank false false e ss = refl
 
 blank-first : (n : ℕ) (s : List ℕ) (ss : List Sector) → allBlank (decode n s ∷ ss) ≡ (zeros s & allBlank ss)
 unfolding decode
-blank-first n s ss = judged-blank (zeros s) (zeros (take 3 (drop 1 s)) & legal n (fields s)) (fields s) ss
+blank-first n s ss = judged-blank (zeros s) (zeros (take 2 (drop 2 s)) & legal n (fields s)) (fields s) ss
 
 none-blank : (part : List ℕ) (i : ℕ) → 16 * i ≡ length part → zeros (drop (16 * i) part) ≡ allBlank []
 unfolding zeros allBlank

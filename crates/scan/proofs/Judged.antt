@@ -118,7 +118,7 @@ module _ (h : Head) (card : List ℕ) (x t b k : ℕ) where
 -- a blank sector has key 0, which is above nothing
 blank-zeros : (n : ℕ) (s : List ℕ) → decode n s ≡ Blank → zeros s ≡ true
 unfolding decode
-blank-zeros n s q = go (zeros s) (zeros (take 3 (drop 1 s)) & legal n (fields s)) q
+blank-zeros n s q = go (zeros s) (zeros (take 2 (drop 2 s)) & legal n (fields s)) q
   where
     go : (b c : Bool) → if b Blank (if c (Held (fields s)) Damaged) ≡ Blank → b ≡ true
     go true c q = refl

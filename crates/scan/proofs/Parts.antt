@@ -15,7 +15,7 @@ use Rattle.rules.specs.declared.Sector.the-variants.{Blank, Held, Damaged}
 use Rattle.rules.specs.Bucket.{joins}
 use Rattle.rules.specs.Layout.{base}
 use Rattle.rules.specs.Plain.{if, _&_, zeros}
-use Rattle.rules.specs.Sector.{sectorAt, legal, fields, decode, isIndex, isRoot}
+use Rattle.rules.specs.Sector.{sectorAt, legal, otherRow, fields, decode, isIndex, isRoot}
 use Rattle.laws.proofs.Tools.{and-true}
 use Rattle.scan.specs.declared.Found.{Found}
 use Rattle.scan.specs.declared.Found.the-variants.{Damage, Nothing, Hit}
@@ -84,8 +84,8 @@ held-fine n false l e h = tt
 decode-fine : (n : ℕ) (s : List ℕ) → Fine n (decode n s)
 unfolding decode
 decode-fine n s =
-    elim (zeros s) as (λ b. Fine n (if b Blank (if (zeros (take 3 (drop 1 s)) & legal n (fields s)) (Held (fields s)) Damaged)))
-    [ true ↦ tt | false ↦ held-fine n (zeros (take 3 (drop 1 s))) (legal n (fields s)) (fields s) refl ]
+    elim (zeros s) as (λ b. Fine n (if b Blank (if (zeros (take 2 (drop 2 s)) & legal n (fields s)) (Held (fields s)) Damaged)))
+    [ true ↦ tt | false ↦ held-fine n (zeros (take 2 (drop 2 s))) (legal n (fields s)) (fields s) refl ]
 
 sectors-fine : (n : ℕ) (card : List ℕ) (i c : ℕ) → AllFine n (sectors n card i c)
 unfolding sectors
@@ -118,19 +118,20 @@ abbrev pub Inside : ℕ → Entry → Type 0
 Inside n e = (1 ≤ e .value) × (e .value ≤ n)
 
 index-inside : (n : ℕ) (e : Entry) → isIndex e ≡ true → legal n e ≡ true → Inside n e
-unfolding isIndex legal
+unfolding isIndex legal otherRow
 index-inside n e i l =
     let k : e .kind ≡ 3 = eqb-true (e .kind) 3 i in
-    let m : leb 1 (e .value) & leb (e .value) n ≡ true = rw k at l in
-    let a = and-true (leb 1 (e .value)) (leb (e .value) n) m in
+    let m : (leb 1 (e .value) & leb (e .value) n) & eqb (e .status) 0 ≡ true = rw k at l in
+    let a = and-true (leb 1 (e .value)) (leb (e .value) n) (and-true (leb 1 (e .value) & leb (e .value) n) (eqb (e .status) 0) m .0) in
     (leb-true 1 (e .value) (a .0), leb-true (e .value) n (a .1))
 
 root-inside : (n : ℕ) (e : Entry) → isRoot e ≡ true → legal n e ≡ true → Inside n e
-unfolding isRoot legal
+unfolding isRoot legal otherRow
 root-inside n e i l =
     let k : e .kind ≡ 4 = eqb-true (e .kind) 4 i in
-    let m : eqb (e .key) 0 & leb 1 (e .value) & leb (e .value) n ≡ true = rw k at l in
-    let w = and-true (eqb (e .key) 0) (leb 1 (e .value) & leb (e .value) n) m in
+    let row = eqb (e .key) 0 & leb 1 (e .value) & leb (e .value) n in
+    let m : row & eqb (e .status) 0 ≡ true = rw k at l in
+    let w = and-true (eqb (e .key) 0) (leb 1 (e .value) & leb (e .value) n) (and-true row (eqb (e .status) 0) m .0) in
     let a = and-true (leb 1 (e .value)) (leb (e .value) n) (w .1) in
     (leb-true 1 (e .value) (a .0), leb-true (e .value) n (a .1))
 

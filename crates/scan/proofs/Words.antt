@@ -1,17 +1,19 @@
 -- A sector of sixteen bytes is what its four words say.
 use mathlib.Core.Path.{_≡_, refl, ap, ap₂, sym, _∙_, subst}
 use mathlib.Core.Bool.{Bool, true, false}
-use Prim.Native.Nat.{ℕ, zero, suc, _+_, _*_, _-_, _≤_}
+use Prim.Native.Nat.{ℕ, zero, suc, _+_, _*_, _-_, _/_, _%_, _≤_, _<_}
 use native.Mathlib.Omega.{arith}
 use mathlib.Core.List.{List, [], _∷_}
 use lib.ListN.{length, getD, take, drop, length-drop}
 use lib.Seq.{getD-drop, drop-drop, drop-length}
 use lib.Dec.{eqb}
 use borrow.Author.Tests.{eqb-true, ne-eqb}
+use mathlib.Core.Logic.{⊎-elim}
 use Rattle.rules.specs.declared.Sector.the-variants.{Blank, Held, Damaged}
 use Rattle.rules.specs.Plain.{if, _&_, zeros}
-use Rattle.rules.specs.Sector.{word, legal, fields, decode}
-use Rattle.laws.proofs.Tools.{and-true, true-false, false-true}
+use Rattle.rules.specs.Sector.{word, legal, otherRow, fields, decode}
+use Rattle.laws.proofs.Tools.{and-true, true-false, false-true, bool-cases}
+use Rattle.laws.proofs.Entries.{legal-status}
 use Rattle.scan.specs.Words.{entry, judged}
 
 abbrev four : ℕ → ℕ → ℕ → ℕ → ℕ
@@ -61,57 +63,56 @@ zeros-words s h =
     ∙ ap (λ z. eqb (word s 0) 0 & eqb (word s 4) 0 & eqb (word s 8) 0 & z)
     (zeros-from s 12 (omega arith) ∙ ap (λ z. eqb (word s 12) 0 & z) (no-more s h) ∙ and-true-right (eqb (word s 12) 0))
 
--- bytes 1 to 3
-pad-zero : (a b c d : ℕ) → zeros (b ∷ c ∷ d ∷ []) ≡ true → four a b c d ≡ a
+-- bytes 2 and 3
+pad-zero : (a b c d : ℕ) → a < 256 → zeros (c ∷ d ∷ []) ≡ true → (four a b c d % 256 ≡ a) × (four a b c d / 256 ≡ b)
 unfolding zeros
-pad-zero a zero zero zero z = omega arith
-pad-zero a (suc b) c d z = absurd (false-true z)
-pad-zero a zero (suc c) d z = absurd (false-true z)
-pad-zero a zero zero (suc d) z = absurd (false-true z)
+pad-zero a b zero zero h z = (omega arith, omega arith)
+pad-zero a b (suc c) d h z = absurd (false-true z)
+pad-zero a b zero (suc d) h z = absurd (false-true z)
 
-pad-more : (a b c d : ℕ) → zeros (b ∷ c ∷ d ∷ []) ≡ false → 256 ≤ four a b c d
+pad-more : (a b c d : ℕ) → zeros (c ∷ d ∷ []) ≡ false → 65536 ≤ four a b c d
 unfolding zeros
-pad-more a zero zero zero z = absurd (true-false z)
-pad-more a (suc b) c d z = omega arith
-pad-more a zero (suc c) d z = omega arith
-pad-more a zero zero (suc d) z = omega arith
+pad-more a b zero zero z = absurd (true-false z)
+pad-more a b (suc c) d z = omega arith
+pad-more a b zero (suc d) z = omega arith
 
-pad-true : (s : List ℕ) → 4 ≤ length s → zeros (take 3 (drop 1 s)) ≡ true → word s 0 ≡ getD s 0 0
-pad-true [] h z = absurd (omega arith)
-pad-true (a ∷ []) h z = absurd (omega arith)
-pad-true (a ∷ b ∷ []) h z = absurd (omega arith)
-pad-true (a ∷ b ∷ c ∷ []) h z = absurd (omega arith)
-pad-true (a ∷ b ∷ c ∷ d ∷ r) h z = word-cons a b c d r ∙ pad-zero a b c d z
+pad-true : (s : List ℕ) → 4 ≤ length s → getD s 0 0 < 256 → zeros (take 2 (drop 2 s)) ≡ true → (word s 0 % 256 ≡ getD s 0 0) × (word s 0 / 256 ≡ getD s 1 0)
+pad-true [] h k z = absurd (omega arith)
+pad-true (a ∷ []) h k z = absurd (omega arith)
+pad-true (a ∷ b ∷ []) h k z = absurd (omega arith)
+pad-true (a ∷ b ∷ c ∷ []) h k z = absurd (omega arith)
+pad-true (a ∷ b ∷ c ∷ d ∷ r) h k z = rw (word-cons a b c d r) (pad-zero a b c d k z)
 
-pad-false : (s : List ℕ) → 4 ≤ length s → zeros (take 3 (drop 1 s)) ≡ false → 256 ≤ word s 0
+pad-false : (s : List ℕ) → 4 ≤ length s → zeros (take 2 (drop 2 s)) ≡ false → 65536 ≤ word s 0
 pad-false [] h z = absurd (omega arith)
 pad-false (a ∷ []) h z = absurd (omega arith)
 pad-false (a ∷ b ∷ []) h z = absurd (omega arith)
 pad-false (a ∷ b ∷ c ∷ []) h z = absurd (omega arith)
 pad-false (a ∷ b ∷ c ∷ d ∷ r) h z = rw (word-cons a b c d r) (pad-more a b c d z)
 
-legal-large : (n head key stamp value : ℕ) → 256 ≤ head → legal n (entry head key stamp value) ≡ false
-unfolding legal
+-- a first word that has them is in no row
+legal-large : (n head key stamp value : ℕ) → 65536 ≤ head → legal n (entry (head % 256) (head / 256) key stamp value) ≡ false
 legal-large n head key stamp value h =
-    rw (ne-eqb head 1 (λ e. omega arith), ne-eqb head 2 (λ e. omega arith), ne-eqb head 3 (λ e. omega arith), ne-eqb head 4 (λ e. omega arith))
+    let e = entry (head % 256) (head / 256) key stamp value in
+    ⊎-elim (λ (l : legal n e ≡ true). let few : head / 256 ≤ 3 = legal-status n e l in absurd (omega arith)) (λ (l : legal n e ≡ false). l) (bool-cases (legal n e))
 
-legal-zero : (n head key stamp value : ℕ) → head ≡ 0 → legal n (entry head key stamp value) ≡ false
-unfolding legal
+legal-zero : (n head key stamp value : ℕ) → head ≡ 0 → legal n (entry (head % 256) (head / 256) key stamp value) ≡ false
+unfolding legal otherRow
 legal-zero n head key stamp value h = rw h refl
 
-judge : (n kind head key stamp value : ℕ) (z p : Bool) → eqb head 0 & eqb key 0 & eqb stamp 0 & eqb value 0 ≡ z
-    → (p ≡ true → head ≡ kind) → (p ≡ false → 256 ≤ head)
-    → if z Blank (if (p & legal n (entry kind key stamp value)) (Held (entry kind key stamp value)) Damaged) ≡ judged n head key stamp value
+judge : (n kind status head key stamp value : ℕ) (z p : Bool) → eqb head 0 & eqb key 0 & eqb stamp 0 & eqb value 0 ≡ z
+    → (p ≡ true → (head % 256 ≡ kind) × (head / 256 ≡ status)) → (p ≡ false → 65536 ≤ head)
+    → if z Blank (if (p & legal n (entry kind status key stamp value)) (Held (entry kind status key stamp value)) Damaged) ≡ judged n head key stamp value
 unfolding judged
-judge n kind head key stamp value true p e t f =
+judge n kind status head key stamp value true p e t f =
     let zero-head = eqb-true head 0 (and-true (eqb head 0) (eqb key 0 & eqb stamp 0 & eqb value 0) e .0) in
     rw (legal-zero n head key stamp value zero-head, e)
-judge n kind head key stamp value false true e t f = rw (sym (t refl), e)
-judge n kind head key stamp value false false e t f = rw (legal-large n head key stamp value (f refl), e)
+judge n kind status head key stamp value false true e t f = rw (sym (t refl .0), sym (t refl .1), e)
+judge n kind status head key stamp value false false e t f = rw (legal-large n head key stamp value (f refl), e)
 
 -- the sector, judged by its words
-pub decode-words : (n : ℕ) (s : List ℕ) → length s ≡ 16 → decode n s ≡ judged n (word s 0) (word s 4) (word s 8) (word s 12)
+pub decode-words : (n : ℕ) (s : List ℕ) → length s ≡ 16 → getD s 0 0 < 256 → decode n s ≡ judged n (word s 0) (word s 4) (word s 8) (word s 12)
 unfolding decode fields
-decode-words n s h =
-    judge n (getD s 0 0) (word s 0) (word s 4) (word s 8) (word s 12) (zeros s) (zeros (take 3 (drop 1 s))) (sym (zeros-words s h))
-    (λ p. pad-true s (omega arith) p) (λ p. pad-false s (omega arith) p)
+decode-words n s h k =
+    judge n (getD s 0 0) (getD s 1 0) (word s 0) (word s 4) (word s 8) (word s 12) (zeros s) (zeros (take 2 (drop 2 s))) (sym (zeros-words s h))
+    (λ p. pad-true s (omega arith) k p) (λ p. pad-false s (omega arith) p)

@@ -9,7 +9,7 @@ use Rattle.rules.specs.declared.Head.{Head}
 use Rattle.rules.specs.declared.Answer.{Answer}
 use Rattle.rules.specs.declared.Sector.{Sector}
 use Rattle.rules.specs.declared.Sector.the-variants.{Blank, Held, Damaged}
-use Rattle.rules.specs.Answers.{refused, ended}
+use Rattle.rules.specs.Answers.{answer, refused, ended}
 use Rattle.rules.specs.Layout.{base, headOf, beginning}
 use Rattle.rules.specs.Plain.{if, _&_}
 use Rattle.rules.specs.Sector.{isIndex, isPost}
@@ -118,7 +118,7 @@ leg h card k t x = legFrom h card k x t (searchLog t (sectors (h .n) card 1 (h .
 -- what to do after it
 unfoldable pub after : Leg → (ℕ → Answer) → Answer
 after Gone on = refused 4
-after (Stand e) on = record { code = 0; bib = e .key; at = e .stamp; time = e .value; reads = 0 }
+after (Stand e) on = answer 0 (e .key) (e .stamp) (e .status) (e .value) 0
 after (Over Damage) on = ended
 after (Over Nothing) on = ended
 after (Over (Hit e)) on = on (e .key)

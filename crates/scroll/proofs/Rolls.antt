@@ -16,7 +16,10 @@ use Rattle.rules.specs.Next.{next}
 use Rattle.rules.specs.Records.{Roll, roll, recordOf, rollOn, rolled}
 use Rattle.rules.specs.Sector.{put, encode}
 use Rattle.scroll.specs.declared.Tally.{Tally}
+use Rattle.laws.proofs.Bytes.{Bytes}
+use Rattle.laws.proofs.Tells.{next-status}
 use Rattle.writer.specs.Rows.{puts}
+use Rattle.writer.specs.Words.{Narrow}
 use Rattle.scroll.specs.Records.{given, recordsIn, recordsOf, tallyOf}
 
 -- the tally of a roll that comes after n records
@@ -31,6 +34,15 @@ count-start card at c bib =
 
 pub lay-start : (card : List ℕ) (at c bib : ℕ) (out : List ℕ) → puts out 0 (rolled card at (c - 0) bib .records) ≡ puts out 0 (rolled card at c bib .records)
 lay-start card at c bib out = let all : c - 0 ≡ c = omega arith in rw all
+
+-- the record of an answer can be written
+pub record-narrow : (card : List ℕ) → Bytes card → (at last : ℕ) (a : Answer) (e : Entry) → a ≡ next card last at → (a .bib ≡ 0 → ⊥) → e ≡ recordOf a → Narrow e
+record-narrow card by at last a e is ne rec =
+    let kind = ap (λ (d : Entry). d .kind) rec in
+    let status = ap (λ (d : Entry). d .status) rec in
+    let told = ap (λ (b : Answer). b .status) is in
+    let few = next-status card by at last (λ z. ne (ap (λ (b : Answer). b .bib) is ∙ z)) in
+    (omega arith, omega arith)
 
 module _ (card : List ℕ) (at c i last : ℕ) (a : Answer) (is : a ≡ next card last at) (lt : i < c) where
   pub roll-stop : a .bib ≡ 0 → rolled card at (c - i) last ≡ roll (a .code) []

@@ -34,6 +34,7 @@ pub fn record_of(a: Answer) -> Entry
 {
     Entry {
         kind: 1,
+        status: a.status,
         key: a.bib,
         stamp: a.at,
         value: a.time,

@@ -14,6 +14,7 @@ use Rattle.rules.specs.Records.{recordOf, rolled}
 use Rattle.scroll.proofs.Rolls.{roll-stop, roll-more, roll-end}
 use mathlib.Core.Logic.{⊎-elim}
 use Rattle.laws.proofs.Tools.{le-or-lt}
+use Rattle.writer.specs.Words.{Narrow}
 use Rattle.season.specs.Storeys.{spot, over, laid, pairOn, raised, tiers, heap}
 use Rattle.season.proofs.Counts.{over-less, heap-more}
 
@@ -40,9 +41,12 @@ module _ (h : Head) (s q b i c j : ℕ) (R target : List ℕ) (eq : raised h s q
   pub raised-end : c ≤ j → target ≡ R
   raised-end le = let n : c - j ≡ 0 = omega arith in rw n at eq
 
-pub pair-kind : (h : Head) (s : ℕ) (card : List ℕ) (b : ℕ) (e : Entry) → e ≡ pairOn h s card b → e .kind < 256
+pub pair-kind : (h : Head) (s : ℕ) (card : List ℕ) (b : ℕ) (e : Entry) → e ≡ pairOn h s card b → Narrow e
 unfolding pairOn
-pair-kind h s card b e p = let k = ap (λ (e : Entry). e .kind) p in omega arith
+pair-kind h s card b e p =
+    let k = ap (λ (e : Entry). e .kind) p in
+    let z = ap (λ (e : Entry). e .status) p in
+    (omega arith, omega arith)
 
 -- the levels, while f more of them are enough
 pub record Rest (h : Head) (s q b c : ℕ) (R target : List ℕ) : Type 0 where

@@ -29,6 +29,7 @@ fn root_entry(at: u32, b: usize) -> Entry
 {
     Entry {
         kind: 4,
+        status: 0,
         key: 0,
         stamp: at,
         value: b as u32,
@@ -46,6 +47,7 @@ fn build(card: &[u8], at: u32, target: &mut [u8], head: Head, count: usize, next
     let first = 1 + head.n;
     let dummy = Entry {
         kind: 2,
+        status: 0,
         key: 0,
         stamp: 0,
         value: 0,

@@ -77,6 +77,7 @@ fn pair_on(card: &[u8], head: Head, stamp: u32, b: usize) -> Entry
     let key = sector::read_word(sector::bytes(card, first), 4);
     Entry {
         kind: 3,
+        status: 0,
         key,
         stamp,
         value: b as u32,

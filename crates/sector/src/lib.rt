@@ -4,8 +4,9 @@ ghost use Prim.Native.Nat.{_+_, _*_, _≤_};
 ghost use lib.ListN.{length};
 ghost use lib.Dec.{leb, eqb};
 ghost use Rattle.rules.specs.Plain.{_&_, zeros};
-ghost use Rattle.rules.specs.Sector.{word, decode, fields, legal, sectorAt};
-ghost use Rattle.scan.specs.Words.{entry, judged};
+ghost use Rattle.rules.specs.Sector.{word, decode, fields, statusFits, otherRow, legal, sectorAt};
+ghost use Rattle.scan.specs.Words.{judged};
+ghost use Rattle.sector.specs.Flaws.{flawOf};
 use rules::Entry;
 use rules::Sector;
 
@@ -24,33 +25,71 @@ pub fn read_word(s: &[u8], at: usize) -> u32
     joined(s[at], s[at + 1], s[at + 2], s[at + 3])
 }
 
-// Whether the fields keep their row of the table, on a card of n buckets.
-fn keeps_row(n: usize, kind: u32, key: u32, stamp: u32, value: u32) -> bool
-    ensures { λ r. ⌜ r ≡ legal n (entry kind key stamp value) ⌝ }
+// Whether a status may stand beside a time: 0 beside any, 1 to 3 beside 0.
+pub fn status_fits(status: u32, time: u32) -> bool
+    ensures { λ r. ⌜ r ≡ statusFits status time ⌝ }
 {
-    if kind == 1 {
-        if 1 <= key {
-            return 1 <= stamp;
+    if status <= 3 {
+        if status == 0 {
+            return true;
         }
-        return false;
+        return time == 0;
     }
-    if kind == 2 {
-        if value == 0 {
-            if 1 <= key {
+    false
+}
+
+// What is wrong with an entry, whatever it is to be written to: no bib, or a status that may not stand beside its time; 0 is nothing.
+pub fn flaw_of(e: Entry) -> u32
+    ensures { λ r. ⌜ r ≡ flawOf e ⌝ }
+{
+    if e.key == 0 {
+        return 2;
+    }
+    if status_fits(e.status, e.value) {
+        return 0;
+    }
+    14
+}
+
+// Whether the fields of a strike, an index or a root entry keep their row of the table, on a card of n buckets.
+fn keeps_other(n: usize, e: Entry) -> bool
+    ensures { λ r. ⌜ r ≡ otherRow n e ⌝ }
+{
+    if e.kind == 2 {
+        if e.value == 0 {
+            if 1 <= e.key {
                 return true;
             }
-            return stamp == 0;
+            return e.stamp == 0;
         }
         return false;
     }
-    if kind == 3 {
-        return names_bucket(n, value);
+    if e.kind == 3 {
+        return names_bucket(n, e.value);
     }
-    if kind == 4 {
-        if key == 0 {
-            return names_bucket(n, value);
+    if e.kind == 4 {
+        if e.key == 0 {
+            return names_bucket(n, e.value);
         }
         return false;
+    }
+    false
+}
+
+// Whether the fields keep their row: a post's status beside its time, and any other's that has none.
+fn keeps_row(n: usize, e: Entry) -> bool
+    ensures { λ r. ⌜ r ≡ legal n e ⌝ }
+{
+    if e.kind == 1 {
+        if 1 <= e.key {
+            if 1 <= e.stamp {
+                return status_fits(e.status, e.value);
+            }
+        }
+        return false;
+    }
+    if keeps_other(n, e) {
+        return e.status == 0;
     }
     false
 }
@@ -83,13 +122,15 @@ fn no_word(a: u32, b: u32, c: u32, d: u32) -> bool
 fn judge(n: usize, head: u32, key: u32, stamp: u32, value: u32) -> Sector
     ensures { λ r. ⌜ r ≡ judged n head key stamp value ⌝ }
 {
-    if keeps_row(n, head, key, stamp, value) {
-        return Sector::Held(Entry {
-            kind: head,
-            key,
-            stamp,
-            value,
-        });
+    let e = Entry {
+        kind: head % 256,
+        status: head / 256,
+        key,
+        stamp,
+        value,
+    };
+    if keeps_row(n, e) {
+        return Sector::Held(e);
     }
     if no_word(head, key, stamp, value) {
         return Sector::Blank;
@@ -97,7 +138,8 @@ fn judge(n: usize, head: u32, key: u32, stamp: u32, value: u32) -> Sector
     Sector::Damaged
 }
 
-// What a sector is, on a card of n buckets. Bytes 0..3 are read as one word: it is a kind of the table only where bytes 1..3 are zero.
+// What a sector is, on a card of n buckets. Bytes 0..3 are read as one word: what is above its kind is a status of the table only where
+// bytes 2..3 are zero.
 fn decode(s: &[u8], n: usize) -> Sector
     requires { ⌜ length (now s) ≡ 16 ⌝ }
     ensures { λ r. ⌜ r ≡ decode n (now (s .entry)) ⌝ }
@@ -146,18 +188,20 @@ fn wide(x: u8) -> u32
     x as u32
 }
 
-// The four fields of sector i of a part, which is not judged.
+// The five fields of sector i of a part, which is not judged.
 pub fn fields_at(part: &[u8], i: usize) -> Entry
     requires { ⌜ 16 * i + 16 ≤ length (now part) ⌝ }
     ensures { λ r. ⌜ r ≡ fields (sectorAt (now (part .entry)) i) ⌝ }
 {
     let s = bytes(part, i);
     let kind = wide(s[0]);
+    let status = wide(s[1]);
     let key = read_word(s, 4);
     let stamp = read_word(s, 8);
     let value = read_word(s, 12);
     Entry {
         kind,
+        status,
         key,
         stamp,
         value,

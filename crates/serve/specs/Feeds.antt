@@ -14,8 +14,8 @@ pub record Ready (room card out : List ℕ) (s : State) : Type 0 where
   pub long : length room ≡ 128
   pub kept : s .used ≤ 128
   pub holds : Room card (s .len)
-  pub wide : length out ≡ 80
-  pub fits : s .said ≤ 80
+  pub wide : length out ≡ 96
+  pub fits : s .said ≤ 96
 
 pub record Fed : Type 0 where
   pub card : List ℕ

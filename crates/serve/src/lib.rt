@@ -18,8 +18,8 @@ pub struct State {
 
 // The answer to a line, at the start of `out`.
 fn respond(card: &mut [u8], out: &mut [u8], len: usize, line: &[u8]) -> State
-    requires { ⌜ Room (now card) len × (length (now out) ≡ 80) ⌝ }
-    ensures { λ r. ⌜ Room (now (card .exit)) (r .len) × (r .used ≡ 0) × (r .said ≤ 80) ⌝ }
+    requires { ⌜ Room (now card) len × (length (now out) ≡ 96) ⌝ }
+    ensures { λ r. ⌜ Room (now (card .exit)) (r .len) × (r .used ≡ 0) × (r .said ≤ 96) ⌝ }
     ensures { λ r. ⌜ take (r .len) (now (card .exit)) ≡ (benchLine (take len (now (card .entry))) (now (line .entry))) .card ⌝ }
     ensures { λ r. ⌜ take (r .said) (now (out .exit)) ≡ answerLine ((benchLine (take len (now (card .entry))) (now (line .entry))) .answer) ⌝ }
 {
@@ -98,7 +98,7 @@ fn chunk(got: &[u8], room: &mut [u8], card: &mut [u8], out: &mut [u8], s: State)
 // A final line without its newline counts unless empty.
 fn finish(room: &[u8], card: &mut [u8], out: &mut [u8], s: State) -> usize
     requires { ⌜ Ready (now room) (now card) (now out) s ⌝ }
-    ensures { λ r. ⌜ (take r (now (out .exit)) ≡ lastHeard (take (s .len) (now (card .entry))) (take (s .used) (now (room .entry)))) × (r ≤ 80) ⌝ }
+    ensures { λ r. ⌜ (take r (now (out .exit)) ≡ lastHeard (take (s .len) (now (card .entry))) (take (s .used) (now (room .entry)))) × (r ≤ 96) ⌝ }
 {
     let used = s.used;
     if used == 0 {
@@ -111,7 +111,7 @@ fn finish(room: &[u8], card: &mut [u8], out: &mut [u8], s: State) -> usize
 // All of the input, a read at a time, and whether it could be read to its end and every answer written. A proved loop has to end,
 // so its turns are counted down from a number that no run uses up.
 fn serve(buf: &mut [u8], room: &mut [u8], card: &mut [u8], out: &mut [u8]) -> bool
-    requires { ⌜ (length (now room) ≡ 128) × Room (now card) 0 × (length (now out) ≡ 80) ⌝ }
+    requires { ⌜ (length (now room) ≡ 128) × Room (now card) 0 × (length (now out) ≡ 96) ⌝ }
 {
     let mut s = State {
         len: 0,
@@ -144,6 +144,6 @@ pub fn run() -> bool {
     let mut buf = io::buffer();
     let mut room = [0u8; 128];
     let mut card = [0u8; 65536];
-    let mut out = [0u8; 80];
+    let mut out = [0u8; 96];
     serve(&mut buf, &mut room, &mut card, &mut out)
 }

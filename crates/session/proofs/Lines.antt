@@ -25,11 +25,11 @@ no-format card (some (formatCall n m td ti)) h = absurd (zeroth h)
   where
     zeroth : OneOf (1 ∷ 2 ∷ 3 ∷ 4 ∷ 5 ∷ []) 0 → ⊥
     zeroth h = ⊎-elim (λ a. omega arith) (⊎-elim (λ a. omega arith) (⊎-elim (λ a. omega arith) (⊎-elim (λ a. omega arith) (λ a. omega arith)))) h
-no-format [] (some (postCall bib at time)) h = refl
+no-format [] (some (postCall bib at status time)) h = refl
 no-format [] (some (strikeCall bib at)) h = refl
 no-format [] (some (lookCall bib at)) h = refl
 no-format [] (some (nextCall bib at)) h = refl
-no-format (x ∷ card) (some (postCall bib at time)) h = refl
+no-format (x ∷ card) (some (postCall bib at status time)) h = refl
 no-format (x ∷ card) (some (strikeCall bib at)) h = refl
 no-format (x ∷ card) (some (lookCall bib at)) h = refl
 no-format (x ∷ card) (some (nextCall bib at)) h = refl
@@ -40,7 +40,7 @@ unfolding requestOf doneOn benchDone benchCall
 card-there [] k h = absurd (omega arith)
 card-there (x ∷ card) none h = refl
 card-there (x ∷ card) (some (formatCall n m td ti)) h = refl
-card-there (x ∷ card) (some (postCall bib at time)) h = refl
+card-there (x ∷ card) (some (postCall bib at status time)) h = refl
 card-there (x ∷ card) (some (strikeCall bib at)) h = refl
 card-there (x ∷ card) (some (lookCall bib at)) h = refl
 card-there (x ∷ card) (some (nextCall bib at)) h = refl
@@ -49,7 +49,7 @@ card-there (x ∷ card) (some (nextCall bib at)) h = refl
 pub no-card : (k : Option Call) (n m td ti : ℕ) → requestOf k ≡ Format n m td ti → firstFormat (sizeOf (meant n m td ti)) n m td ti ≡ benchDone [] k
 unfolding requestOf benchDone benchCall
 no-card none n m td ti e = let z : _≡_ {A = ℕ} 0 1 = cc in absurd (omega arith)
-no-card (some (postCall bib at time)) n m td ti e = let z : _≡_ {A = ℕ} 0 1 = cc in absurd (omega arith)
+no-card (some (postCall bib at status time)) n m td ti e = let z : _≡_ {A = ℕ} 0 1 = cc in absurd (omega arith)
 no-card (some (strikeCall bib at)) n m td ti e = let z : _≡_ {A = ℕ} 0 1 = cc in absurd (omega arith)
 no-card (some (lookCall bib at)) n m td ti e = let z : _≡_ {A = ℕ} 0 1 = cc in absurd (omega arith)
 no-card (some (nextCall bib at)) n m td ti e = let z : _≡_ {A = ℕ} 0 1 = cc in absurd (omega arith)

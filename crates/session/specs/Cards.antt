@@ -18,7 +18,7 @@ pub record Room (buffer : List ℕ) (len : ℕ) : Type 0 where
 
 unfoldable pub doneOn : List ℕ → Request → Done
 doneOn card (Format n m td ti) = called card (formatCall n m td ti)
-doneOn card (Post bib at time) = called card (postCall bib at time)
+doneOn card (Post bib at status time) = called card (postCall bib at status time)
 doneOn card (Strike bib at) = called card (strikeCall bib at)
 doneOn card (Look bib at) = called card (lookCall bib at)
 doneOn card (Next bib at) = called card (nextCall bib at)

@@ -23,8 +23,8 @@ fn call(card: &mut [u8], q: Request) -> Answer
         Request::Format(buckets, sectors, td, ti) => {
             return format::format(card, buckets, sectors, td, ti);
         }
-        Request::Post(bib, at, time) => {
-            return write::post(card, bib, at, time);
+        Request::Post(bib, at, status, time) => {
+            return write::post(card, bib, at, status, time);
         }
         Request::Strike(bib, at) => {
             return write::strike(card, bib, at);

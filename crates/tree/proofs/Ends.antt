@@ -14,6 +14,7 @@ use Rattle.rules.specs.Next.{indexOn}
 use Rattle.rules.specs.Plain.{only, smaller, smallest}
 use Rattle.rules.specs.Sector.{isIndex}
 use Rattle.rules.specs.Walk.{Visit, copyOf, dataOf, downTo, go, goIn, left, met, path, standing, standsOn}
+use Rattle.laws.proofs.Tells.{smaller-pick}
 use Rattle.laws.proofs.Halves.{only-every, only-none}
 use Rattle.laws.proofs.Lists.{All, all-map, follow-all, follow-le, only-all, only-append, only-true, upper, upper-all, upper-gt, upper-le, all-both}
 use Rattle.laws.proofs.Tools.{le-or-lt}
@@ -28,14 +29,6 @@ above x es = only (λ e. ltb x (e .key)) es
 smaller-none : (d : Entry) → smaller d none ≡ some d
 unfolding smaller
 smaller-none d = refl
-
-pub smaller-pick : (e d : Entry) → ((smaller e (some d) ≡ some d) × (d .key ≤ e .key)) ⊎ ((smaller e (some d) ≡ some e) × (e .key < d .key))
-unfolding smaller
-smaller-pick e d =
-    ⊎-elim
-    (λ (le : d .key ≤ e .key). inl (rw (le-leb (d .key) (e .key) le), le))
-    (λ (gt : e .key < d .key). inr (rw (lt-leb (d .key) (e .key) gt), gt))
-    (le-or-lt (d .key) (e .key))
 
 abbrev pub Least : ℕ → List Entry → ℕ → ℕ → Type 0
 Least x es u hi = ((smallest (above x es) ≡ none) × (u ≡ hi)) ⊎ ((e : Entry) × (smallest (above x es) ≡ some e) × (e .key ≡ u) × (u < hi))

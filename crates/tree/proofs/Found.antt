@@ -16,7 +16,7 @@ use Rattle.rules.specs.Walk.{copyOf, standing}
 use Rattle.laws.proofs.Tools.{and-true, none-some, true-and, le-or-lt, eq-or-ne}
 use Rattle.laws.proofs.Lists.{All, all-map, only-all, only-back, only-true, copy-all, last-all}
 use Rattle.laws.proofs.Copies.{copy-cons, cstep}
-use Rattle.tree.proofs.Ends.{smaller-pick}
+use Rattle.laws.proofs.Tells.{smaller-pick, smallest-all, wants}
 
 -- a copy has the key
 copy-key : (x : ℕ) (es : List Entry) (e : Entry) → copyOf x es ≡ some e → e .key ≡ x
@@ -73,20 +73,6 @@ lasts-all P y (d ∷ es) e a q =
     last-case z false t w = absurd (none-some w)
 
 -- the smallest of a list
-pub smallest-all : (P : Entry → Type 0) (es : List Entry) (d : Entry) → All P es → smallest es ≡ some d → P d
-unfolding smallest smaller
-smallest-all P [] d a q = absurd (none-some q)
-smallest-all P (e ∷ es) d a q =
-    let go : (r : Option Entry) → smallest es ≡ r → smaller e r ≡ some d → P d
-    = λ r. elim r [
-      | none ↦ λ z w. (let ed : e ≡ d = cc in subst P ed (a .0))
-      | some c ↦ λ z w. ⊎-elim
-          (λ (k : (smaller e (some c) ≡ some c) × (c .key ≤ e .key)). smallest-all P es d (a .1) (z ∙ sym (k .0) ∙ w))
-          (λ (k : (smaller e (some c) ≡ some e) × (e .key < c .key)). (let ed : some e ≡ some d = sym (k .0) ∙ w in let e2 : e ≡ d = cc in subst P e2 (a .0)))
-          (smaller-pick e c)
-    ] in
-    go (smallest es) refl q
-
 smaller-some : (e : Entry) (r : Option Entry) → smaller e r ≡ none → ⊥
 unfolding smaller
 smaller-some e none q = none-some (sym q)
@@ -120,9 +106,6 @@ smallest-le (e ∷ es) d q =
 
     le-key : e ≡ d → d .key ≤ e .key
     le-key i = let k : e .key ≡ d .key = ap (λ y. y .key) i in omega arith
-
-abbrev pub wants : ℕ → Entry → Bool
-wants k e = isPost e & ltb k (e .key)
 
 -- no one that is wanted has the key y: nothing stands there
 nobody : (k y : ℕ) (es : List Entry) → k < y → All (λ e. wants k e ≡ true → e .key ≡ y → ⊥) (lasts es) → standing (copyOf y es) ≡ none

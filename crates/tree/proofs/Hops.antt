@@ -14,14 +14,10 @@ use Rattle.rules.specs.Plain.{smallest}
 use Rattle.rules.specs.Walk.{Visit, dataOf, left}
 use Rattle.laws.proofs.Tools.{le-or-lt}
 use Rattle.laws.proofs.Lists.{all-map}
+use Rattle.laws.proofs.Tells.{given}
 use Rattle.tree.proofs.Tree.{Span}
 use Rattle.tree.proofs.Ends.{Ends, above}
 use Rattle.tree.proofs.Found.{data-next, Found}
-
--- the record of an entry, or the end
-abbrev pub given : Option Entry → Answer
-given none = ended
-given (some e) = answer 0 (e .key) (e .stamp) (e .value) 0
 
 -- a is the answer for the smallest bib above k that stands by g, or the end
 abbrev pub NextIs : (ℕ → Option Entry) → ℕ → Answer → Type 0

@@ -15,7 +15,7 @@ use Rattle.rules.specs.Bucket.{bucket}
 use Rattle.rules.specs.Layout.{sizeOf, beginning}
 use Rattle.rules.specs.Next.{next, nextIn}
 use Rattle.rules.specs.Plain.{if}
-use Rattle.rules.specs.Sector.{isData}
+use Rattle.rules.specs.Sector.{isData, statusFits}
 use Rattle.rules.specs.Walk.{Visit, pathFrom, pathIn, standing, walk}
 use Rattle.rules.specs.Write.{accept, plan, planOn, stampOn, latest}
 use Rattle.laws.proofs.Buckets.{bucket-within}
@@ -93,28 +93,28 @@ module _ (h : Head) (card : List ℕ) (g : ℕ → ℕ → Option Entry) (begin 
       (a .0, a .1)
 
   -- a write whose stamp is above every one
-  pub keeps-write : 1 ≤ e .key → s < e .stamp
+  pub keeps-write : 1 ≤ e .key → s < e .stamp → statusFits (e .status) (e .value) ≡ true
       → ((new : List ℕ) → planOn h card e (write-walk .0) ≡ accept new → Wrote h card new (upd (ke .now) e) (e .stamp) (ke .state .logs))
       × (freshAfter h card e (write-walk .0) ≤ h .n + 1 → (new : List ℕ) × (planOn h card e (write-walk .0) ≡ accept new))
-  keeps-write key above =
+  keeps-write key above fits =
       let st = ke .state in
       let top = ke .top in
       let w = write-walk in
-      let step = write-step h card (ke .now) (ke .height) st e (asks-fine (h .n) e asks key (omega arith)) (asks-kind e asks) in
+      let step = write-step h card (ke .now) (ke .height) st e (asks-fine (h .n) e asks key (omega arith) fits) (asks-kind e asks) in
       let same : step .0 ≡ w .0 = some-inj (sym (step .1) ∙ sym (state-walk h card (ke .now) (ke .height) st (e .key)) ∙ w .1) in
       subst (λ p. ((new : List ℕ) → planOn h card e p ≡ accept new → Wrote h card new (upd (ke .now) e) (e .stamp) (ke .state .logs))
       × (freshAfter h card e p ≤ h .n + 1 → (new : List ℕ) × (planOn h card e p ≡ accept new))) same (step .2, step .3)
 
-  pub keeps-passed : (new : List ℕ) → plan card e ≡ accept new → (1 ≤ e .key) × (s < e .stamp) × (planOn h card e (write-walk .0) ≡ accept new)
+  pub keeps-passed : (new : List ℕ) → plan card e ≡ accept new → (1 ≤ e .key) × (s < e .stamp) × (planOn h card e (write-walk .0) ≡ accept new) × (statusFits (e .status) (e .value) ≡ true)
   keeps-passed new q =
       let w = write-walk in
       let inv = plan-inv h card e new (w .0) (ke .state .head) (w .1) q in
       let above = inv .1 in
       let top = ke .top in
-      (inv .0, omega arith, inv .2)
+      (inv .0, omega arith, inv .2, inv .3)
 
   pub keeps-wrote : (new : List ℕ) → plan card e ≡ accept new → Wrote h card new (upd (ke .now) e) (e .stamp) (ke .state .logs)
-  keeps-wrote new q = let a = keeps-passed new q in keeps-write (a .0) (a .1) .0 new (a .2)
+  keeps-wrote new q = let a = keeps-passed new q in keeps-write (a .0) (a .1) (a .3) .0 new (a .2)
 
   -- one accepted entry more
   pub keeps-step : (new : List ℕ) → plan card e ≡ accept new → Keeps h new (more g e) begin (e .stamp)

@@ -18,11 +18,12 @@ use Rattle.rules.specs.Plain.{_&_, zeros, andThen, every, lastOf}
 use Rattle.rules.specs.Records.{Roll}
 use Rattle.rules.specs.Rewrite.{Rise}
 use Rattle.rules.specs.Season.{storey, towerOn, built, rootedOn, seasonOn, seasonTo, seasonFor, season, standingAt}
-use Rattle.rules.specs.Sector.{put, encode, isData, isIndex, isPost, isRoot, legal, rootEntry, sectorAt, word}
+use Rattle.rules.specs.Sector.{put, encode, isData, isIndex, isPost, isRoot, legal, statusFits, rootEntry, sectorAt, word}
 use Rattle.rules.specs.Walk.{copyOf, standing}
 use Rattle.rules.specs.Write.{accept, refuseIf, stampOn}
 use Rattle.laws.proofs.Buckets.{raw}
 use Rattle.laws.proofs.Bytes.{bytes-encode, bytes-put, zero-bytes}
+use Rattle.laws.proofs.Tells.{Rec}
 use Rattle.laws.proofs.Codec.{Fits, length-encode}
 use Rattle.laws.proofs.Copies.{copy-cons, cstep}
 use Rattle.laws.proofs.Entries.{Fine, dummy-fine, root-fine, root-says}
@@ -52,9 +53,6 @@ abbrev pub said : List Entry → ℕ → Option Entry
 said rs x = standing (copyOf x rs)
 
 -- records that stand as of t, by rising bib
-abbrev pub Rec : ℕ → Entry → Type 0
-Rec t e = Fits e × (e .kind ≡ 1) × (1 ≤ e .key) × (1 ≤ e .stamp) × (e .stamp ≤ t)
-
 abbrev pub Records : ℕ → List Entry → Type 0
 Records t rs = All (Rec t) rs × Sorted rs
 
@@ -64,7 +62,7 @@ rec-span t e r = let k = r .0 .key in rw (r .1) (refl, omega arith, omega arith,
 
 rec-fine : (n t : ℕ) (e : Entry) → Rec t e → Fine n e
 unfolding legal
-rec-fine n t e r = (r .0, rw (r .1) (true-and (le-leb 1 (e .key) (r .2)) (le-leb 1 (e .stamp) (r .3))))
+rec-fine n t e r = (r .0, rw (r .1, le-leb 1 (e .key) (r .2), le-leb 1 (e .stamp) (r .3)) (r .5))
 
 -- the dummy says nothing
 dummy-said : (b : Bool) (r : Option Entry) → standing (cstep b dummy r) ≡ standing r

@@ -17,7 +17,7 @@ use Rattle.rules.specs.Next.{hop, hopOr, hopTo, hopping, keyAbove, lasts, next,
 use Rattle.rules.specs.Plain.{_&_, if, isNone, keepIf, lastOf, only}
 use Rattle.rules.specs.Records.{Roll, roll, recordOf, rollOn, rolled}
 use Rattle.rules.specs.Season.{standingAt}
-use Rattle.rules.specs.Sector.{isPost, legal}
+use Rattle.rules.specs.Sector.{isPost, legal, statusFits}
 use Rattle.rules.specs.Walk.{Visit, copyOf, dataOf, left, standing, standsOn, walk}
 use Rattle.laws.proofs.Buckets.{bucket-raw}
 use Rattle.laws.proofs.Bytes.{Bytes, run-good}
@@ -29,94 +29,21 @@ use Rattle.laws.proofs.Paths.{Along, along-map, walk-reads}
 use Rattle.laws.proofs.Tools.{and-true, eq-or-ne, le-or-lt, none-some}
 use Rattle.rules.specs.Bucket.{bucket}
 use Rattle.tree.proofs.Ends.{ends-here}
-use Rattle.tree.proofs.Found.{Found, found-ext, found-one, smallest-all, wants}
-use Rattle.tree.proofs.Hops.{given}
+use Rattle.laws.proofs.Tells.{given, Rec, Tells, next-tells}
+use Rattle.tree.proofs.Found.{Found, found-ext, found-one}
 use Rattle.tree.proofs.Keeps.{Keeps, keeps-next}
-use Rattle.tree.proofs.Seasoned.{Rec, Records, said}
-
--- what holds of every bucket on a path holds of its data
-data-along : (P : Entry → Type 0) (p : List Visit) → Along (λ v. All P (v .entries)) p → All P (dataOf p)
-unfolding dataOf
-data-along P [] a = tt
-data-along P (v ∷ []) a = a .0
-data-along P (v ∷ w ∷ p) a = data-along P (w ∷ p) (a .1)
-
-walk-fine : (h : Head) (card : List ℕ) → Bytes card → (t x : ℕ) (p : List Visit) → walk h card t x ≡ some p → All (Fine (h .n)) (dataOf p)
-walk-fine h card by t x p q =
-    data-along (Fine (h .n)) p
-    (along-map (λ v. bucket h card (v .number) ≡ some (v .entries)) (λ v. All (Fine (h .n)) (v .entries))
-    (λ v z. run-good (h .n) card by (base h (v .number)) (h .m) (v .entries) (bucket-raw h card (v .number) (v .entries) z .1)) p (walk-reads h card t x p q))
-
-lasts-sub : (P : Entry → Type 0) (es : List Entry) → All P es → All P (lasts es)
-unfolding lasts
-lasts-sub P [] a = tt
-lasts-sub P (e ∷ es) a =
-    elim (isNone (copyOf (e .key) es)) as (λ b. All P (keepIf b e (lasts es))) [ true ↦ (a .0, lasts-sub P es (a .1)) | false ↦ lasts-sub P es (a .1) ]
-
-fine-rec : (n t : ℕ) (e : Entry) → Fine n e → e .stamp ≤ t → isPost e ≡ true → Rec t e
-unfolding isPost legal
-fine-rec n t e f s p =
-    let k = eqb-true (e .kind) 1 p in
-    let l : leb 1 (e .key) & leb 1 (e .stamp) ≡ true = rw k at (f .1) in
-    let a = and-true (leb 1 (e .key)) (leb 1 (e .stamp)) l in
-    (f .0, k, leb-true 1 (e .key) (a .0), leb-true 1 (e .stamp) (a .1), s)
-
--- what a next above k may answer: a refusal or the end, or a record with a bib above k
-abbrev Tells : ℕ → ℕ → Answer → Type 0
-Tells k t a = (a .bib ≡ 0) ⊎ ((e : Entry) × (a ≡ given (some e)) × Rec t e × (k < e .key))
-
-module _ (n k t : ℕ) (wk : ℕ → Option (List Visit)) (fine : (x : ℕ) (p : List Visit) → wk x ≡ some p → All (Fine n) (dataOf p)) where
-  found : (es : List Entry) (e : Entry) → All (Fine n) es → standingAbove k (left t es) ≡ some e → Rec t e × (k < e .key)
-  unfolding standingAbove left
-  found es e a q =
-      let early : Entry → Bool = λ d. leb (d .stamp) t in
-      let l = only early es in
-      let P : Entry → Type 0 = λ d. Fine n d × (leb (d .stamp) t ≡ true) in
-      let al : All P l = all-both (Fine n) (λ d. leb (d .stamp) t ≡ true) l (only-all (Fine n) early es a) (only-true early es) in
-      let w = smallest-all (λ d. wants k d ≡ true) (only (wants k) (lasts l)) e (only-true (wants k) (lasts l)) q in
-      let f = smallest-all P (only (wants k) (lasts l)) e (only-all P (wants k) (lasts l) (lasts-sub P l al)) q in
-      let wp = and-true (isPost e) (ltb k (e .key)) w in
-      (fine-rec n t e (f .0) (leb-true (e .stamp) t (f .1)) (wp .0), ltb-true k (e .key) (wp .1))
-
-  any-next : (f x : ℕ) → Tells k t (nextFrom wk k t f x)
-  unfolding nextFrom hop hopOr hopTo hopping ended refused
-  any-next zero x = inl refl
-  any-next (suc f) x =
-      let further : (r : Option Entry) → Tells k t (hopping (hopTo r) (nextFrom wk k t f))
-      = λ r. elim r [ none ↦ inl refl | some e ↦ any-next f (e .key) ] in
-      let here : (p : List Visit) → wk x ≡ some p → (r : Option Entry) → standingAbove k (left t (dataOf p)) ≡ r
-      → Tells k t (hopping (hopOr r (hopTo (keyAbove t x p))) (nextFrom wk k t f))
-      = λ p q r. elim r [
-        | none ↦ λ z. further (keyAbove t x p)
-        | some e ↦ λ z. (let d = found (dataOf p) e (fine x p q) z in inr (e, refl, d .0, d .1))
-      ] in
-      let walked : (r : Option (List Visit)) → wk x ≡ r → Tells k t (hopping (hop k t x r) (nextFrom wk k t f))
-      = λ r. elim r [ none ↦ λ z. inl refl | some p ↦ λ z. here p z (standingAbove k (left t (dataOf p))) refl ] in
-      walked (wk x) refl
-
--- on any card
-next-tells : (card : List ℕ) → Bytes card → (t k : ℕ) → Tells k t (next card k t)
-unfolding next nextIn refused
-next-tells card by t k = go (headOf card)
-  where
-    late : (h : Head) (b : Bool) → Tells k t (if b (refused 13) (nextFrom (walk h card t) k t 4294967296 k))
-    late h true = inl refl
-    late h false = any-next (h .n) k t (walk h card t) (walk-fine h card by t) 4294967296 k
-
-    go : (o : Option Head) → Tells k t (nextIn k t card o)
-    go none = inl refl
-    go (some h) = late h (ltb t (beginning card))
+use Rattle.tree.proofs.Seasoned.{Records, said}
 
 -- the record of an answer is the entry that it was given for
 record-given : (e : Entry) → e .kind ≡ 1 → recordOf (given (some e)) ≡ e
-record-given e k = λ i. record { kind = sym k i; key = e .key; stamp = e .stamp; value = e .value }
+record-given e k = λ i. record { kind = sym k i; status = e .status; key = e .key; stamp = e .stamp; value = e .value }
 
 abbrev Rising : ℕ → ℕ → List Entry → Type 0
 Rising t k rs = Records t rs × All (λ d. k < d .key) rs
 
 on-rising : (k t : ℕ) (a : Answer) (on : ℕ → Roll) → Tells k t a → ((j : ℕ) → Rising t j (on j .records)) → Rising t k (rollOn a on .records)
 unfolding rollOn
-on-rising k t a on (inl z) rest = rw (eq-eqb (a .bib) 0 z) ((tt, tt), tt)
+on-rising k t a on (inl z) rest = rw (eq-eqb (a .bib) 0 (z .0)) ((tt, tt), tt)
 on-rising k t a on (inr (e, is, r, ke)) rest =
     let g = rest (e .key) in
     let all : Rising t k (e ∷ on (e .key) .records)

@@ -76,6 +76,7 @@ pub fn refusal(code: u32) -> Answer
         code,
         bib: 0,
         at: 0,
+        status: 0,
         time: 0,
         reads: 0,
     }
@@ -89,6 +90,7 @@ pub fn tell(bib: u32, reads: u32, found: Found) -> Answer
         code: 0,
         bib,
         at: 0,
+        status: 0,
         time: 0,
         reads,
     };
@@ -101,6 +103,7 @@ pub fn tell(bib: u32, reads: u32, found: Found) -> Answer
                     code: 0,
                     bib,
                     at: e.stamp,
+                    status: e.status,
                     time: e.value,
                     reads,
                 };

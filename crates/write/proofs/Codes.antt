@@ -7,18 +7,20 @@ use mathlib.Core.List.{List, []}
 use Prim.Native.Nat.{ℕ, zero, suc, _<_}
 use native.Mathlib.Omega.{arith}
 use lib.Dec.{eqb, leb}
-use borrow.Author.Tests.{eq-eqb, ne-eqb, leb-false}
+use borrow.Author.Tests.{eq-eqb, ne-eqb, leb-false, eqb-false}
 use Rattle.rules.specs.declared.Entry.{Entry}
 use Rattle.rules.specs.declared.Head.{Head}
 use Rattle.rules.specs.Answers.{refused}
 use Rattle.rules.specs.Plain.{_&_, isNone}
-use Rattle.rules.specs.Sector.{isPost}
+use Rattle.rules.specs.Sector.{isPost, statusFits}
 use Rattle.rules.specs.Layout.{headOf}
 use Rattle.rules.specs.Walk.{Visit, walk, standing, standsOn, copyOf, left, dataOf}
 use Rattle.rules.specs.Write.{Plan, refuse, accept, refuseIf, planAnswer, planCard, planOn, planAt, planFor, plan, stampOn, topUsed, latest}
 use Rattle.laws.proofs.Tools.{bool-cases, false-true}
 use Rattle.laws.proofs.Entries.{Asks, Fine, asks-fine}
 use Rattle.laws.proofs.Roots.{rootNow}
+use Rattle.sector.specs.Flaws.{flawOf}
+use Rattle.sector.proofs.Flaws.{flaw-refuses, flawless}
 use Rattle.scan.specs.declared.Found.{Found}
 use Rattle.scan.proofs.Picks.{hit}
 use Rattle.trail.proofs.Tracks.{trackIn}
@@ -85,23 +87,28 @@ module _ (card : List ℕ) (e : Entry) where
   no-head q = rw q
 
   module _ (h : Head) (q : headOf card ≡ some h) where
-    pub no-bib : e .key ≡ 0 → plan card e ≡ refuse 2
-    unfolding plan planFor refuseIf
-    no-bib z = rw (q, eq-eqb (e .key) 0 z)
+    -- 2 and 14, by the entry's flaw
+    pub flawed : (c : ℕ) → c ≡ flawOf e → (c ≡ 0 → ⊥) → plan card e ≡ refuse c
+    unfolding plan planFor
+    flawed c is ne = rw q (flaw-refuses e c is ne _)
 
-    -- by what a survey says of the stamp
-    module _ (ne : e .key ≡ 0 → ⊥) (late : Bool) (is : late ≡ leb (e .stamp) (stampOn h card)) where
+    -- by what a survey says of the stamp of an entry without one
+    module _ (c : ℕ) (said : c ≡ flawOf e) (z : c ≡ 0) (late : Bool) (is : late ≡ leb (e .stamp) (stampOn h card)) where
+      sane : (eqb (e .key) 0 ≡ false) × (statusFits (e .status) (e .value) ≡ true)
+      sane = flawless e c said z
+
       pub stale : late ≡ true → plan card e ≡ refuse 3
       unfolding plan planFor refuseIf
-      stale y = rw (q, ne-eqb (e .key) 0 ne, ← is, y)
+      stale y = rw (q, sane .0, sane .1, ← is, y)
 
       pub goes-in : late ≡ false → plan card e ≡ planAt h card e (walk h card latest (e .key))
       unfolding plan planFor refuseIf
-      goes-in y = rw (q, ne-eqb (e .key) 0 ne, ← is, y)
+      goes-in y = rw (q, sane .0, sane .1, ← is, y)
 
       -- and the entry can be written
       pub fine-now : Asks e → late ≡ false → Fine (h .n) e
-      fine-now asks y = asks-fine (h .n) e asks (omega (arith, ne)) (omega (arith, leb-false (e .stamp) (stampOn h card) (sym is ∙ y)))
+      fine-now asks y =
+          asks-fine (h .n) e asks (omega (arith, eqb-false (e .key) 0 (sane .0))) (omega (arith, leb-false (e .stamp) (stampOn h card) (sym is ∙ y))) (sane .1)
 
 -- the track of a walk that came to data is its path
 pub came-path : (h : Head) (card : List ℕ) (x : ℕ) → Came h card x → trackIn x [] (walk h card latest x) .path ≡ upward (walked h card x) []
@@ -145,10 +152,10 @@ module _ (h : Head) (card : List ℕ) (p : Plan) where
   tried-short places r less = record { did = λ no. absurd (false-true (sym no)); same = λ yes. refl; few = λ yes. less }
 
 -- an entry was refused before the card was looked through, or went in
-pub began-not : (h : Head) (card : List ℕ) (p : Plan) (c : ℕ) (r : Entered) → r ≡ record { code = suc c; used = 0; root = 0 } → p ≡ refuse (suc c) → Began r h card card p
+pub began-not : (h : Head) (card : List ℕ) (p : Plan) (c : ℕ) (r : Entered) → (c ≡ 0 → ⊥) → r ≡ record { code = c; used = 0; root = 0 } → p ≡ refuse c → Began r h card card p
 unfolding planAnswer planCard refused
-began-not h card p c r is q =
-    rw is (record { code = sym (ap (λ (y : Plan). planAnswer y .code) q); bytes = sym (ap (planCard card) q); did = λ (z : suc c ≡ 0). absurd (omega arith) })
+began-not h card p c r ne is q =
+    rw is (record { code = sym (ap (λ (y : Plan). planAnswer y .code) q); bytes = sym (ap (planCard card) q); did = λ (z : c ≡ 0). absurd (ne z) })
 
 pub began : (r : Entered) (h : Head) (card after : List ℕ) (p : Plan) → Did r h card after p → Began r h card after p
 began r h card after p d = record { code = d .code; bytes = d .bytes; did = λ z. d }

@@ -265,8 +265,9 @@ pub fn enter_on(card: &mut [u8], head: Head, e: Entry) -> Entered
     requires { ⌜ (headOf (now card) ≡ some head) × Asks e ⌝ }
     ensures { λ r. ⌜ Began r head (now (card .entry)) (now (card .exit)) (plan (now (card .entry)) e) ⌝ }
 {
-    if e.key == 0 {
-        return early(2);
+    let flaw = sector::flaw_of(e);
+    if flaw != 0 {
+        return early(flaw);
     }
     let area = survey::survey_for(card, head, e.stamp);
     if area.late {
@@ -294,13 +295,14 @@ fn enter(card: &mut [u8], e: Entry) -> Answer
     walk::refusal(entered.code)
 }
 
-// A new time or a correction.
-pub fn post(card: &mut [u8], bib: u32, at: u32, time: u32) -> Answer
-    ensures { λ r. ⌜ r ≡ planAnswer (post (now (card .entry)) bib at time) ⌝ }
-    ensures { λ _. ⌜ now (card .exit) ≡ planCard (now (card .entry)) (post (now (card .entry)) bib at time) ⌝ }
+// A new result or a correction: a time, or a status without one.
+pub fn post(card: &mut [u8], bib: u32, at: u32, status: u32, time: u32) -> Answer
+    ensures { λ r. ⌜ r ≡ planAnswer (post (now (card .entry)) bib at status time) ⌝ }
+    ensures { λ _. ⌜ now (card .exit) ≡ planCard (now (card .entry)) (post (now (card .entry)) bib at status time) ⌝ }
 {
     let e = Entry {
         kind: 1,
+        status,
         key: bib,
         stamp: at,
         value: time,
@@ -308,13 +310,14 @@ pub fn post(card: &mut [u8], bib: u32, at: u32, time: u32) -> Answer
     enter(card, e)
 }
 
-// The bib's time stands no more.
+// The bib's result stands no more.
 pub fn strike(card: &mut [u8], bib: u32, at: u32) -> Answer
     ensures { λ r. ⌜ r ≡ planAnswer (strike (now (card .entry)) bib at) ⌝ }
     ensures { λ _. ⌜ now (card .exit) ≡ planCard (now (card .entry)) (strike (now (card .entry)) bib at) ⌝ }
 {
     let e = Entry {
         kind: 2,
+        status: 0,
         key: bib,
         stamp: at,
         value: 0,

@@ -10,7 +10,7 @@ use Rattle.rules.specs.declared.Entry.{Entry}
 use Rattle.rules.specs.declared.Head.{Head}
 use Rattle.rules.specs.Sector.{le4, encode}
 use Rattle.rules.specs.Layout.{headBytes}
-use Rattle.writer.specs.Words.{fourWords}
+use Rattle.writer.specs.Words.{Narrow, fourWords}
 
 module _ {A : Type 0} where
   -- a list whose every place is stored, from the front, is what was stored
@@ -58,11 +58,11 @@ digits a b c d ha hb hc =
     let t : x / 16777216 ≡ d = ap (λ (n : ℕ). n / 16777216) e3 ∙ over3 (a + 256 * b + 65536 * c) d (omega arith) in
     rw (p, q, r, t)
 
-pub entry-words : (e : Entry) → e .kind < 256 → fourWords (e .kind) (e .key) (e .stamp) (e .value) ≡ encode e
+pub entry-words : (e : Entry) → Narrow e → fourWords (e .kind + 256 * e .status) (e .key) (e .stamp) (e .value) ≡ encode e
 unfolding fourWords encode
 entry-words e h =
-    let k : e .kind ≡ e .kind + 256 * 0 + 65536 * 0 + 16777216 * 0 = omega arith in
-    let w : le4 (e .kind) ≡ e .kind ∷ 0 ∷ 0 ∷ 0 ∷ [] = ap le4 k ∙ digits (e .kind) 0 0 0 h (omega arith) (omega arith) in
+    let k : e .kind + 256 * e .status ≡ e .kind + 256 * e .status + 65536 * 0 + 16777216 * 0 = omega arith in
+    let w : le4 (e .kind + 256 * e .status) ≡ e .kind ∷ e .status ∷ 0 ∷ 0 ∷ [] = ap le4 k ∙ digits (e .kind) (e .status) 0 0 (h .0) (h .1) (omega arith) in
     ap (λ (l : List ℕ). l ++ (le4 (e .key) ++ (le4 (e .stamp) ++ le4 (e .value)))) w
 
 pub head-words : (h : Head) (begin : ℕ) → h .m < 256 → h .td < 256

@@ -6,7 +6,7 @@ ghost use Prim.Native.Nat.{_+_, _*_, _≤_, _<_};
 ghost use lib.ListN.{length};
 ghost use Rattle.rules.specs.Sector.{le4, encode, put};
 ghost use Rattle.rules.specs.Layout.{headBytes};
-ghost use Rattle.writer.specs.Words.{fourWords};
+ghost use Rattle.writer.specs.Words.{Narrow, fourWords};
 
 // The four bytes of x, lowest first.
 fn write_word(part: &mut [u8], x: u32)
@@ -39,10 +39,10 @@ fn lend(card: &mut [u8], i: usize, first: u32, key: u32, stamp: u32, value: u32)
 }
 
 pub fn write_entry(card: &mut [u8], i: usize, e: Entry)
-    requires { ⌜ (16 * i + 16 ≤ length (now card)) × (e .kind < 256) ⌝ }
+    requires { ⌜ (16 * i + 16 ≤ length (now card)) × Narrow e ⌝ }
     ensures { λ _. ⌜ now (card .exit) ≡ put (now (card .entry)) i (encode e) ⌝ }
 {
-    lend(card, i, e.kind, e.key, e.stamp, e.value);
+    lend(card, i, e.kind + 256 * e.status, e.key, e.stamp, e.value);
 }
 
 // The head of a card with its beginning, in sector 0.

@@ -29,7 +29,7 @@ impl Grown {
             if random.chance(5) && (MODEL.strike)(&mut card, bib, stamp).code == 0 {
                 continue;
             }
-            assert_eq!((MODEL.post)(&mut card, bib, stamp, stamp).code, 0, "half a card is not full");
+            assert_eq!((MODEL.post)(&mut card, bib, stamp, 0, stamp).code, 0, "half a card is not full");
         }
         let bibs = standing(&card);
         Grown { geometry, card, stamp, bibs }

@@ -11,7 +11,7 @@ mod random;
 mod survey;
 mod workload;
 
-use card::Shape;
+use card::{Shape, Status};
 use random::Random;
 use survey::{Loaded, Survey};
 
@@ -26,7 +26,7 @@ fn load(keys: &[u32], td: u32) -> Survey {
     card::format(&mut bytes, shape).expect("the card is blank");
     let mut loaded = Loaded::default();
     for (&key, at) in keys.iter().zip(1..) {
-        card::post(&mut bytes, key, at, at).expect("the card has room for the experiment");
+        card::post(&mut bytes, key, at, Status::Timed, at).expect("the card has room for the experiment");
         loaded.after_a_post(&bytes);
     }
     survey::of(&bytes, &loaded)

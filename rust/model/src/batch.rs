@@ -51,6 +51,9 @@ impl Known {
         if request.key == 0 {
             return Err(2);
         }
+        if !request.has_sound_status() {
+            return Err(14);
+        }
         if request.stamp <= self.largest_stamp {
             return Err(3);
         }
@@ -61,7 +64,7 @@ impl Known {
     }
 }
 
-/// Kind 1 or 2, bytes 1..3 zero, which the kind is read with, and no strike with a value.
+/// Kind 1 or 2, bytes 2..3 zero, which the kind is read with, and no strike with a status or a value.
 fn is_well_asked(request: Entry) -> bool {
-    request.kind == POST || request.kind == STRIKE && request.value == 0
+    request.kind == POST || request.kind == STRIKE && request.status == 0 && request.value == 0
 }

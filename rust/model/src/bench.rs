@@ -59,8 +59,8 @@ impl<'a> Bench<'a> {
     }
 }
 
-fn said(Answer { code, bib, at, time, reads }: Answer) -> String {
-    format!("code={code} bib={bib} at={at} time={time} reads={reads}")
+fn said(Answer { code, bib, at, status, time, reads }: Answer) -> String {
+    format!("code={code} bib={bib} at={at} status={status} time={time} reads={reads}")
 }
 
 /// The call of a line; `None` is a line off the grammar.
@@ -73,9 +73,12 @@ pub fn parse(line: &[u8]) -> Option<Call> {
             td: fields.number("td")?,
             ti: fields.number("ti")?,
         },
-        b"post" => {
-            Call::Post { bib: fields.number("bib")?, at: fields.number("at")?, time: fields.number("time")? }
-        }
+        b"post" => Call::Post {
+            bib: fields.number("bib")?,
+            at: fields.number("at")?,
+            status: fields.number("status")?,
+            time: fields.number("time")?,
+        },
         b"strike" => Call::Strike { bib: fields.number("bib")?, at: fields.number("at")? },
         b"look" => Call::Look { bib: fields.number("bib")?, at: fields.number("at")? },
         b"next" => Call::Next { bib: fields.number("bib")?, at: fields.number("at")? },

@@ -9,7 +9,7 @@ pub type Copying = fn(&[u8], u32, &mut [u8], u32, u32, u32, u32) -> u32;
 #[derive(Clone, Copy)]
 pub struct Calls {
     pub format: fn(&mut [u8], u32, u32, u32, u32) -> Answer,
-    pub post: fn(&mut [u8], u32, u32, u32) -> Answer,
+    pub post: fn(&mut [u8], u32, u32, u32, u32) -> Answer,
     pub strike: fn(&mut [u8], u32, u32) -> Answer,
     pub batch: fn(&mut [u8], &[u8], &mut [u8]) -> u32,
     pub look: fn(&[u8], u32, u32) -> Answer,
@@ -35,7 +35,7 @@ pub const MODEL: Calls = Calls {
 /// One implementation's calls on a journal.
 #[derive(Clone, Copy)]
 pub struct JournalCalls {
-    pub post: fn(&mut [u8], u32, u32, u32) -> Answer,
+    pub post: fn(&mut [u8], u32, u32, u32, u32) -> Answer,
     pub strike: fn(&mut [u8], u32, u32) -> Answer,
     pub look: fn(&[u8], u32, u32) -> Answer,
     pub next: fn(&[u8], u32, u32) -> Answer,
@@ -49,7 +49,7 @@ pub const MODEL_JOURNAL: JournalCalls =
 #[derive(Clone, Copy, Debug, PartialEq, Eq)]
 pub enum Call {
     Format { buckets: u32, sectors: u32, td: u32, ti: u32 },
-    Post { bib: u32, at: u32, time: u32 },
+    Post { bib: u32, at: u32, status: u32, time: u32 },
     Strike { bib: u32, at: u32 },
     Look { bib: u32, at: u32 },
     Next { bib: u32, at: u32 },
@@ -59,7 +59,7 @@ impl Call {
     pub fn run(self, calls: &Calls, card: &mut [u8]) -> Answer {
         match self {
             Call::Format { buckets, sectors, td, ti } => (calls.format)(card, buckets, sectors, td, ti),
-            Call::Post { bib, at, time } => (calls.post)(card, bib, at, time),
+            Call::Post { bib, at, status, time } => (calls.post)(card, bib, at, status, time),
             Call::Strike { bib, at } => (calls.strike)(card, bib, at),
             Call::Look { bib, at } => (calls.look)(card, bib, at),
             Call::Next { bib, at } => (calls.next)(card, bib, at),
@@ -69,7 +69,7 @@ impl Call {
     pub fn run_on_journal(self, calls: &JournalCalls, journal: &mut [u8]) -> Answer {
         match self {
             Call::Format { .. } => panic!("no journal is formatted"),
-            Call::Post { bib, at, time } => (calls.post)(journal, bib, at, time),
+            Call::Post { bib, at, status, time } => (calls.post)(journal, bib, at, status, time),
             Call::Strike { bib, at } => (calls.strike)(journal, bib, at),
             Call::Look { bib, at } => (calls.look)(journal, bib, at),
             Call::Next { bib, at } => (calls.next)(journal, bib, at),

@@ -64,17 +64,17 @@ fn standing_above(entries: &[Bytes], mut bib: u32) -> Option<Entry> {
 }
 
 fn record(entry: Entry) -> Answer {
-    Answer { bib: entry.key, at: entry.stamp, time: entry.value, ..Answer::ACCEPTED }
+    Answer { bib: entry.key, at: entry.stamp, status: entry.status, time: entry.value, ..Answer::ACCEPTED }
 }
 
-/// A new time for `bib`, or a correction.
-pub fn post(journal: &mut [u8], bib: u32, at: u32, time: u32) -> Answer {
-    write(journal, Entry { kind: POST, key: bib, stamp: at, value: time })
+/// A new result for `bib`, or a correction.
+pub fn post(journal: &mut [u8], bib: u32, at: u32, status: u32, time: u32) -> Answer {
+    write(journal, Entry { kind: POST, status, key: bib, stamp: at, value: time })
 }
 
 /// Erases what stands for `bib`.
 pub fn strike(journal: &mut [u8], bib: u32, at: u32) -> Answer {
-    write(journal, Entry { kind: STRIKE, key: bib, stamp: at, value: 0 })
+    write(journal, Entry::without_status(STRIKE, bib, at, 0))
 }
 
 fn write(journal: &mut [u8], entry: Entry) -> Answer {
@@ -92,6 +92,9 @@ fn place_for(journal: &[u8], entry: Entry) -> Result<usize, u32> {
     let journal = Journal::of(journal).ok_or(1u32)?;
     if entry.key == 0 {
         return Err(2);
+    }
+    if !entry.has_sound_status() {
+        return Err(14);
     }
     if entry.stamp <= journal.last {
         return Err(3);

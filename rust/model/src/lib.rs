@@ -2,7 +2,7 @@
 //!
 //! Written from the words of documents 01 and 02 alone, so that a mistake in the proved library's rules
 //! and a mistake here are not the same mistake. Every call takes every slice of bytes, answers
-//! with the paper's five numbers and leaves the card as the paper says. No call allocates.
+//! with the paper's six numbers and leaves the card as the paper says. No call allocates.
 #![forbid(unsafe_code)]
 
 mod answer;

@@ -6,8 +6,8 @@ use crate::answer::Answer;
 pub struct Said {
     pub bib: u32,
     pub at: u32,
-    /// The time of a post; a strike has none.
-    pub time: Option<u32>,
+    /// Status and time of a post; a strike has none.
+    pub result: Option<(u32, u32)>,
 }
 
 #[derive(Clone, Debug, Default)]
@@ -26,8 +26,8 @@ impl List {
     pub fn look(&self, bib: u32, at: u32) -> Answer {
         let last = self.0.iter().rfind(|said| said.bib == bib && said.at <= at);
         match last {
-            Some(Said { at, time: Some(time), .. }) => {
-                Answer { bib, at: *at, time: *time, ..Answer::ACCEPTED }
+            Some(Said { at, result: Some((status, time)), .. }) => {
+                Answer { bib, at: *at, status: *status, time: *time, ..Answer::ACCEPTED }
             }
             _ => Answer { bib, ..Answer::ACCEPTED },
         }

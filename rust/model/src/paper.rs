@@ -11,19 +11,19 @@ fn card_bytes(buckets: usize, sectors: usize) -> Vec<u8> {
 /// The eleven lines of the bench session.
 pub const SESSION: [Call; 11] = [
     Call::Format { buckets: 16, sectors: 4, td: 3, ti: 4 },
-    Call::Post { bib: 8, at: 10, time: 61230 },
-    Call::Post { bib: 3, at: 20, time: 58900 },
-    Call::Post { bib: 11, at: 30, time: 59990 },
-    Call::Post { bib: 5, at: 40, time: 60000 },
+    Call::Post { bib: 8, at: 10, status: 0, time: 61230 },
+    Call::Post { bib: 3, at: 20, status: 0, time: 58900 },
+    Call::Post { bib: 11, at: 30, status: 0, time: 59990 },
+    Call::Post { bib: 5, at: 40, status: 0, time: 60000 },
     Call::Strike { bib: 8, at: 50 },
     Call::Look { bib: 8, at: 49 },
     Call::Look { bib: 8, at: 50 },
     Call::Next { bib: 5, at: 49 },
     Call::Next { bib: 5, at: 50 },
-    Call::Post { bib: 9, at: 50, time: 1 },
+    Call::Post { bib: 9, at: 50, status: 0, time: 1 },
 ];
 
-/// What they answer: code, bib, at, time, reads.
+/// What they answer: code, bib, at, time, reads; M-106 adds a status, which is 0 throughout.
 pub const ANSWERS: [[u32; 5]; 11] = [
     [0; 5],
     [0; 5],
@@ -41,7 +41,7 @@ pub const ANSWERS: [[u32; 5]; 11] = [
 pub fn session(calls: &Calls) {
     let mut card = card_bytes(16, 4);
     for (call, [code, bib, at, time, reads]) in SESSION.into_iter().zip(ANSWERS) {
-        assert_eq!(call.run(calls, &mut card), Answer { code, bib, at, time, reads }, "{call:?}");
+        assert_eq!(call.run(calls, &mut card), Answer { code, bib, at, status: 0, time, reads }, "{call:?}");
     }
 }
 
@@ -80,19 +80,19 @@ fn up_to_c(calls: &Calls, card: &mut [u8], buckets: u32) -> Answer {
     let accepted = |answer: Answer| assert_eq!(answer, Answer::default());
     accepted((calls.format)(card, buckets, 4, 3, 4));
     for (bib, at, time) in [(8, 10, 61230), (3, 20, 58900), (11, 30, 59990), (5, 40, 60000)] {
-        accepted((calls.post)(card, bib, at, time));
+        accepted((calls.post)(card, bib, at, 0, time));
     }
     // (a)
     assert_eq!((keys(card, 3), keys(card, 4)), (vec![0, 3, 5], vec![8, 11]));
     accepted((calls.strike)(card, 8, 50));
-    accepted((calls.post)(card, 11, 60, 1));
-    accepted((calls.post)(card, 11, 70, 2));
+    accepted((calls.post)(card, 11, 60, 0, 1));
+    accepted((calls.post)(card, 11, 70, 0, 2));
     // (b)
     assert_eq!(bucket(card, 5), vec![[2, 8, 50, 0], [1, 11, 70, 2], [0; 4], [0; 4]]);
     assert_eq!(bucket(card, 1), vec![[3, 0, 0, 2], [3, 0, 40, 3], [3, 8, 40, 4], [3, 8, 70, 5]]);
-    accepted((calls.post)(card, 12, 80, 3));
-    accepted((calls.post)(card, 13, 90, 4));
-    (calls.post)(card, 14, 100, 5)
+    accepted((calls.post)(card, 12, 80, 0, 3));
+    accepted((calls.post)(card, 13, 90, 0, 4));
+    (calls.post)(card, 14, 100, 0, 5)
 }
 
 pub fn growing(calls: &Calls) {
@@ -110,15 +110,21 @@ pub fn growing(calls: &Calls) {
     assert_eq!(up_to_c(calls, &mut eight, 8), Answer::default());
     // (e)
     for (bib, at) in [(15, 110), (16, 120), (17, 130)] {
-        assert_eq!((calls.post)(&mut card, bib, at, bib), Answer::default());
+        assert_eq!((calls.post)(&mut card, bib, at, 0, bib), Answer::default());
     }
     assert_eq!((keys(&card, 9), keys(&card, 10)), (vec![13, 14, 15], vec![16, 17]));
     assert_eq!((keys(&card, 11), keys(&card, 12)), (vec![0, 8], vec![13, 16]));
     assert_eq!(bucket(&card, 13), vec![[3, 0, 130, 11], [3, 13, 130, 12], [0; 4], [0; 4]]);
     assert_eq!(roots(&card), vec![(0, 1), (100, 8), (130, 13)]);
     // (f), (g), (h)
-    assert_eq!((calls.look)(&card, 17, 130), Answer { code: 0, bib: 17, at: 130, time: 17, reads: 3 });
-    assert_eq!((calls.look)(&card, 16, 129), Answer { code: 0, bib: 16, at: 120, time: 16, reads: 2 });
+    assert_eq!(
+        (calls.look)(&card, 17, 130),
+        Answer { code: 0, bib: 17, at: 130, status: 0, time: 17, reads: 3 }
+    );
+    assert_eq!(
+        (calls.look)(&card, 16, 129),
+        Answer { code: 0, bib: 16, at: 120, status: 0, time: 16, reads: 2 }
+    );
     assert_eq!(blanks(&card, 8), 1);
 }
 

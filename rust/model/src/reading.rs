@@ -23,7 +23,7 @@ fn standing_above(data: &Searched, bib: u32) -> Option<Entry> {
 }
 
 fn record(entry: Entry, reads: u32) -> Answer {
-    Answer { code: 0, bib: entry.key, at: entry.stamp, time: entry.value, reads }
+    Answer { code: 0, bib: entry.key, at: entry.stamp, status: entry.status, time: entry.value, reads }
 }
 
 /// The record of `bib` as of `at`.

@@ -77,7 +77,7 @@ impl Climb<'_> {
         }
         self.taken.buckets += 1;
         self.lay(self.head.place(self.taken.buckets, 0), entries);
-        Some(Entry { kind: INDEX, key: entries[0].key, stamp: self.stamp, value: self.taken.buckets })
+        Some(Entry::without_status(INDEX, entries[0].key, self.stamp, self.taken.buckets))
     }
 
     /// One or two fresh buckets for what was kept; their pairs, low first.

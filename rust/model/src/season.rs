@@ -90,14 +90,14 @@ impl Pile<'_> {
             self.open();
             for bucket in below {
                 let key = number(&self.head.bucket(self.target, bucket)[0], 4);
-                self.put(Entry { kind: INDEX, key, stamp: at, value: bucket });
+                self.put(Entry::without_status(INDEX, key, at, bucket));
             }
             if first == self.bucket {
                 break;
             }
             below = first..=self.bucket;
         }
-        let root = Entry { kind: ROOT, key: 0, stamp: at, value: self.bucket };
+        let root = Entry::without_status(ROOT, 0, at, self.bucket);
         self.lay(SECTOR, root);
     }
 }

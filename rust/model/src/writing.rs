@@ -18,7 +18,7 @@ pub const NOW: u32 = u32::MAX;
 const USUAL_LEVELS: usize = 32;
 
 /// What is always the lowest header.
-pub const DUMMY: Entry = Entry { kind: STRIKE, key: 0, stamp: 0, value: 0 };
+pub const DUMMY: Entry = Entry { kind: STRIKE, status: 0, key: 0, stamp: 0, value: 0 };
 
 /// Makes a blank card an empty one.
 pub fn format(card: &mut [u8], buckets: u32, sectors: u32, td: u32, ti: u32) -> Answer {
@@ -28,20 +28,20 @@ pub fn format(card: &mut [u8], buckets: u32, sectors: u32, td: u32, ti: u32) -> 
     }
     meant.write(card);
     let mut put = |from: usize, entry: Entry| entry.write(&mut sectors_mut(&mut card[from..])[0]);
-    put(SECTOR, Entry { kind: ROOT, key: 0, stamp: 0, value: 1 });
-    put(meant.place(1, 0), Entry { kind: INDEX, key: 0, stamp: 0, value: 2 });
+    put(SECTOR, Entry::without_status(ROOT, 0, 0, 1));
+    put(meant.place(1, 0), Entry::without_status(INDEX, 0, 0, 2));
     put(meant.place(2, 0), DUMMY);
     Answer::ACCEPTED
 }
 
-/// A new time for `bib`, or a correction.
-pub fn post(card: &mut [u8], bib: u32, at: u32, time: u32) -> Answer {
-    write(card, Entry { kind: POST, key: bib, stamp: at, value: time })
+/// A new result for `bib`, or a correction.
+pub fn post(card: &mut [u8], bib: u32, at: u32, status: u32, time: u32) -> Answer {
+    write(card, Entry { kind: POST, status, key: bib, stamp: at, value: time })
 }
 
 /// Erases what stands for `bib`.
 pub fn strike(card: &mut [u8], bib: u32, at: u32) -> Answer {
-    write(card, Entry { kind: STRIKE, key: bib, stamp: at, value: 0 })
+    write(card, Entry::without_status(STRIKE, bib, at, 0))
 }
 
 fn write(card: &mut [u8], entry: Entry) -> Answer {
@@ -56,6 +56,9 @@ fn entered(card: &mut [u8], entry: Entry) -> Result<(), u32> {
     let head = Head::of(card).ok_or(1u32)?;
     if entry.key == 0 {
         return Err(2);
+    }
+    if !entry.has_sound_status() {
+        return Err(14);
     }
     let survey = Survey::of(card, &head);
     if !survey.is_below(entry.stamp) {

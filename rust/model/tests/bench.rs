@@ -13,6 +13,12 @@ fn document_01_session() {
     assert_eq!(answers(lines), include_str!("../../../crates/bench_sample/stdout"));
 }
 
+#[test]
+fn all_four_statuses() {
+    let lines = include_bytes!("../../../crates/bench_status/stdin");
+    assert_eq!(answers(lines), include_str!("../../../crates/bench_status/stdout"));
+}
+
 /// Calls before the first format, cards too long, lines off the grammar, a last line without its newline.
 #[test]
 fn lines_off_the_grammar() {
@@ -23,7 +29,7 @@ fn lines_off_the_grammar() {
 #[test]
 fn no_line_in_an_empty_text() {
     assert_eq!(answers(b""), "");
-    assert_eq!(answers(b"\n"), "code=10 bib=0 at=0 time=0 reads=0\n");
+    assert_eq!(answers(b"\n"), "code=10 bib=0 at=0 status=0 time=0 reads=0\n");
 }
 
 #[test]

@@ -1,7 +1,7 @@
 //! A batch under the library, by its numbers and through the safe function, and under the model, held to
 //! the same calls one by one. Every answer and every byte is compared.
 
-use super::bytes::{get, put, set, Entry};
+use super::bytes::{get, post_of, put, set, Entry};
 use super::growth::Day;
 use super::guarded::Guarded;
 use super::random::Random;
@@ -34,7 +34,8 @@ pub fn requests_of(calls: &[Call]) -> Vec<u8> {
 
 fn entry(call: Call) -> Option<Entry> {
     match call {
-        Call::Post { bib, at, time } => Some((1, bib, at, time)),
+        // a request has but a byte for its status
+        Call::Post { bib, at, status, time } => Some((post_of(status.min(255)), bib, at, time)),
         Call::Strike { bib, at } => Some((2, bib, at, 0)),
         _ => None,
     }
@@ -59,7 +60,7 @@ pub fn spoil_some(requests: &mut [u8], random: &mut Random) {
     }
 }
 
-/// Changes a request in a way that 11 speaks of: a post that becomes a strike mostly has a value.
+/// Changes a request in a way that 11 or 14 speaks of: a post that becomes a strike mostly has a value.
 fn spoil(request: &mut [u8], random: &mut Random) {
     match random.within(0, 3) {
         0 => request[0] = random.of(&[0, 3, 4, 5, 6, 127, 128, 254, 255]),
@@ -75,9 +76,9 @@ fn spoil(request: &mut [u8], random: &mut Random) {
 /// Whether a request answers 11 on what is a card, by document 02's words.
 fn is_badly_asked(request: &[u8]) -> bool {
     let other_kind = request[0] != 1 && request[0] != 2;
-    let not_zero = request[1..4] != [0, 0, 0];
-    let strike_with_a_value = request[0] == 2 && request[12..] != [0, 0, 0, 0];
-    other_kind || not_zero || strike_with_a_value
+    let not_zero = request[2..4] != [0, 0];
+    let strike_with_more = request[0] == 2 && (request[1] != 0 || request[12..] != [0, 0, 0, 0]);
+    other_kind || not_zero || strike_with_more
 }
 
 /// The answer to one request by its own call. What is no card answers 1 ahead of all else.
@@ -89,7 +90,8 @@ fn one(side: &Calls, card: &mut [u8], request: &[u8]) -> u32 {
         return 11;
     }
     let [bib, at, time] = [4, 8, 12].map(|from| get(request, from));
-    let call = if request[0] == 1 { Call::Post { bib, at, time } } else { Call::Strike { bib, at } };
+    let status = request[1].into();
+    let call = if request[0] == 1 { Call::Post { bib, at, status, time } } else { Call::Strike { bib, at } };
     call.run(side, card).code
 }
 

@@ -2,12 +2,18 @@
 
 use super::random::Random;
 
-/// Kind, key, stamp, value.
-pub type Entry = (u8, u32, u32, u32);
+/// Kind, key, stamp, value. A post's status is in the kind's upper byte.
+pub type Entry = (u16, u32, u32, u32);
+
+/// The kind of a post with this status.
+pub fn post_of(status: u32) -> u16 {
+    1 | (status as u16) << 8
+}
 
 pub fn put(card: &mut [u8], sector: usize, (kind, key, stamp, value): Entry) {
     let bytes = &mut card[16 * sector..16 * (sector + 1)];
-    bytes[..4].copy_from_slice(&[kind, 0, 0, 0]);
+    bytes[..2].copy_from_slice(&kind.to_le_bytes());
+    bytes[2..4].fill(0);
     set(bytes, 4, key);
     set(bytes, 8, stamp);
     set(bytes, 12, value);

@@ -1,7 +1,8 @@
 //! Cards that others might have written: sound trees that our rules would not leave, with stamps in
 //! no order, old copies, roots of any height and buckets used in any order.
 
-use super::bytes::{first_sector, put, put_head, set, Entry};
+use super::bytes::{first_sector, post_of, put, put_head, set, Entry};
+use super::growth::result;
 use super::length;
 use super::random::Random;
 
@@ -115,7 +116,8 @@ impl Foreign<'_> {
         if self.random.chance(30) {
             (2, key, stamp, 0)
         } else {
-            (1, key, stamp.max(1), self.random.any())
+            let (status, time) = result(self.random);
+            (post_of(status), key, stamp.max(1), time)
         }
     }
 

@@ -41,6 +41,24 @@ impl Geometry {
     }
 }
 
+/// Status and time of a result: mostly a time.
+pub fn result(random: &mut Random) -> (u32, u32) {
+    if random.chance(25) {
+        (random.within(1, 3), 0)
+    } else {
+        (0, random.any())
+    }
+}
+
+/// Status and time that no result has: a status above 3, or a time beside another status than 0.
+pub fn no_result(random: &mut Random) -> (u32, u32) {
+    if random.chance(50) {
+        (random.of(&[4, 5, 127, 128, 255, 256, 257, 259, 1 << 16, 1 << 24, 1 << 31, u32::MAX]), random.any())
+    } else {
+        (random.within(1, 3), random.any().max(1))
+    }
+}
+
 /// How bibs come.
 #[derive(Clone, Copy)]
 enum Bibs {
@@ -124,7 +142,8 @@ impl Day {
         if random.chance(self.strikes) {
             Call::Strike { bib, at }
         } else {
-            Call::Post { bib, at, time: random.any() }
+            let (status, time) = result(random);
+            Call::Post { bib, at, status, time }
         }
     }
 
@@ -138,15 +157,20 @@ impl Day {
         }
     }
 
-    /// A call that is likely refused: bib 0, a stale stamp, a second format, a shape off the limits.
+    /// A call that is likely refused: bib 0, a stale stamp, no status, a second format, a shape off the limits.
     fn oddity(&mut self, random: &mut Random) -> Call {
         let (bib, at) = (self.bib(random), random.within(0, self.stamp));
-        match random.within(0, 5) {
-            0 => Call::Post { bib: 0, at: random.any(), time: 1 },
+        match random.within(0, 7) {
+            0 => Call::Post { bib: 0, at: random.any(), status: random.any(), time: 1 },
             1 => Call::Strike { bib: 0, at: random.any() },
             2 => Call::Look { bib: 0, at },
-            3 => Call::Post { bib, at, time: 1 },
+            3 => Call::Post { bib, at, status: 0, time: 1 },
             4 => Call::Strike { bib, at },
+            5 | 6 => {
+                let (status, time) = no_result(random);
+                let at = random.of(&[at, self.stamp.saturating_add(1)]);
+                Call::Post { bib, at, status, time }
+            }
             _ => Call::Format {
                 buckets: random.any(),
                 sectors: random.any(),

@@ -8,8 +8,8 @@ use card_model::Answer;
 /// The entry that an accepted write adds to the list.
 pub fn said(call: Call) -> Said {
     match call {
-        Call::Post { bib, at, time } => Said { bib, at, time: Some(time) },
-        Call::Strike { bib, at } => Said { bib, at, time: None },
+        Call::Post { bib, at, status, time } => Said { bib, at, result: Some((status, time)) },
+        Call::Strike { bib, at } => Said { bib, at, result: None },
         _ => unreachable!("only writes are said"),
     }
 }

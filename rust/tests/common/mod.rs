@@ -25,7 +25,7 @@ use std::env;
 /// The proved library's calls.
 pub const LIBRARY: Calls = Calls {
     format: |card, buckets, sectors, td, ti| answer(card::numbers::format(card, buckets, sectors, td, ti)),
-    post: |card, bib, at, time| answer(card::numbers::post(card, bib, at, time)),
+    post: |card, bib, at, status, time| answer(card::numbers::post(card, bib, at, status, time)),
     strike: |card, bib, at| answer(card::numbers::strike(card, bib, at)),
     batch: card::numbers::batch,
     look: |card, bib, at| answer(card::numbers::look(card, bib, at)),
@@ -44,14 +44,16 @@ pub const LIBRARY: Calls = Calls {
 
 /// The proved library's calls on a journal.
 pub const LIBRARY_JOURNAL: JournalCalls = JournalCalls {
-    post: |journal, bib, at, time| answer(card::numbers::journal_post(journal, bib, at, time)),
+    post: |journal, bib, at, status, time| {
+        answer(card::numbers::journal_post(journal, bib, at, status, time))
+    },
     strike: |journal, bib, at| answer(card::numbers::journal_strike(journal, bib, at)),
     look: |journal, bib, at| answer(card::numbers::journal_look(journal, bib, at)),
     next: |journal, bib, at| answer(card::numbers::journal_next(journal, bib, at)),
 };
 
 fn answer(a: card::numbers::Answer) -> Answer {
-    Answer { code: a.code, bib: a.bib, at: a.at, time: a.time, reads: a.reads }
+    Answer { code: a.code, bib: a.bib, at: a.at, status: a.status, time: a.time, reads: a.reads }
 }
 
 /// The length of a card.

@@ -1,6 +1,6 @@
 //! Damage: one change to a card's bytes, likely to be one that a rule speaks of.
 
-use super::bytes::{get, pick, put, set};
+use super::bytes::{get, pick, post_of, put, set};
 use super::random::Random;
 
 /// Changes the card somewhere. It may get another length.
@@ -38,7 +38,9 @@ pub fn damage(card: &mut Vec<u8>, random: &mut Random) {
 /// An entry that is sound by itself in a blank sector, mostly after other blanks.
 fn behind_blanks(card: &mut [u8], random: &mut Random, blank: usize) {
     let entry = match random.within(0, 3) {
-        0 => (1, random.within(1, 40), random.within(1, 60), random.any()),
+        0 => {
+            (post_of(random.within(0, 4)), random.within(1, 40), random.within(1, 60), random.of(&[0, 0, 7]))
+        }
         1 => (2, random.within(1, 40), random.within(0, 60), 0),
         2 => (3, random.within(0, 40), random.within(0, 60), random.within(1, 3)),
         _ => (4, 0, random.within(0, 60), random.within(1, 3)),

@@ -1,7 +1,7 @@
 //! A season copy under the library, by its numbers and through the safe function, under the model, and laid
 //! out here once more from the answers of next. Every answer and every byte is compared.
 
-use super::bytes::{first_sector, put, put_head, set, Entry};
+use super::bytes::{first_sector, post_of, put, put_head, set, Entry};
 use super::growth::Geometry;
 use super::guarded::Guarded;
 use super::wrapper::WRAPPER;
@@ -28,7 +28,7 @@ pub fn standing(card: &[u8], at: u32) -> Result<Vec<Entry>, u32> {
             return Ok(records);
         }
         bib = answer.bib;
-        records.push((1, bib, answer.at, answer.time));
+        records.push((post_of(answer.status), bib, answer.at, answer.time));
     }
 }
 

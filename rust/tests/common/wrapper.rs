@@ -1,6 +1,6 @@
 //! The safe functions as a table of calls: what they say in Rust types, turned back into numbers.
 
-use card::{journal, Look, Record, Refusal, Shape};
+use card::{journal, Look, Record, Refusal, Shape, Status};
 use card_model::call::{Calls, JournalCalls};
 use card_model::{Answer, Digits, State};
 
@@ -8,7 +8,11 @@ pub const WRAPPER: Calls = Calls {
     format: |card, buckets, sectors, td, ti| {
         done(card::format(card, Shape::new(buckets, sectors).td(td).ti(ti)))
     },
-    post: |card, bib, at, time| done(card::post(card, bib, at, time)),
+    // a number that is no status can be asked for by the numbers alone
+    post: |card, bib, at, status, time| match status_of(status) {
+        Some(status) => done(card::post(card, bib, at, status, time)),
+        None => super::answer(card::numbers::post(card, bib, at, status, time)),
+    },
     strike: |card, bib, at| done(card::strike(card, bib, at)),
     batch: |card, requests, answers| {
         // bytes that are no row of whole requests can be lent by the numbers alone
@@ -54,7 +58,10 @@ pub const WRAPPER: Calls = Calls {
 
 /// The same for the safe functions on a journal.
 pub const WRAPPER_JOURNAL: JournalCalls = JournalCalls {
-    post: |journal, bib, at, time| done(journal::post(journal, bib, at, time)),
+    post: |journal, bib, at, status, time| match status_of(status) {
+        Some(status) => done(journal::post(journal, bib, at, status, time)),
+        None => super::answer(card::numbers::journal_post(journal, bib, at, status, time)),
+    },
     strike: |journal, bib, at| done(journal::strike(journal, bib, at)),
     look: |journal, bib, at| match journal::look(journal, bib, at) {
         Ok(record) => record.map_or(Answer { bib, ..Answer::ACCEPTED }, found),
@@ -66,6 +73,11 @@ pub const WRAPPER_JOURNAL: JournalCalls = JournalCalls {
     },
 };
 
+fn status_of(number: u32) -> Option<Status> {
+    let all = [Status::Timed, Status::DidNotFinish, Status::Disqualified, Status::DidNotStart];
+    all.into_iter().find(|status| status.number() == number)
+}
+
 fn refused(refusal: Refusal) -> Answer {
     Answer::refused(refusal.into())
 }
@@ -75,5 +87,7 @@ fn done(answer: Result<(), Refusal>) -> Answer {
 }
 
 fn found(record: Record) -> Answer {
-    Answer { bib: record.bib, at: record.at, time: record.time, ..Answer::ACCEPTED }
+    let Record { bib, at, status, time } = record;
+    assert_eq!(time.is_some(), status == Status::Timed);
+    Answer { bib, at, status: status.number(), time: time.unwrap_or(0), ..Answer::ACCEPTED }
 }

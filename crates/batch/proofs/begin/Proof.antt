@@ -37,7 +37,7 @@ returns-2 c =
     let at-well = c .before in
     let o = at-well .before .before .before in
     let a = o .args in
-    began-not (a .head) (a .card .now) _ 10 _ refl
+    began-not (a .head) (a .card .now) _ 11 _ (λ z. omega arith) refl
     (ill-asked (a .card .now) (sectorAt (now (a .requests)) 0) (a .head) (o .pre .0) (sym (at-well .well-asked .ensures) ∙ c .if1 .left))
 
 pub begin-spec : {M : Type 1} → statement M

@@ -7,11 +7,10 @@ use native.Mathlib.Omega.{arith}
 use Rattle.rules.specs.declared.Entry.{Entry}
 use Rattle.rules.specs.Journal.{journal}
 use Rattle.rules.specs.Write.{latest}
-use Rattle.laws.proofs.Entries.{Asks}
 use Rattle.laws.proofs.Follows.{refuses, accepts}
 use Rattle.laws.proofs.Journals.{not-journal}
 use Rattle.journal.specs.Passes.{passOf}
-use Rattle.journal.proofs.Plans.{broken-none, sound-some, objected, written, room-for}
+use Rattle.journal.proofs.Plans.{broken-none, sound-some, objected, written, room-for, narrow-now}
 use Rattle.journal.proofs.enter.Statement.{statement}
 use Rattle.journal.proofs.enter.Tie as tie
 
@@ -43,7 +42,6 @@ returns-2 c =
     (f .answer, f .bytes)
 
 write-entry-requires : tie.Need-write-entry-requires
-unfolding Asks
 write-entry-requires c κs =
     let asked = c .before .before in
     let sound = asked .before .before in
@@ -51,7 +49,7 @@ write-entry-requires c κs =
     let a = o .args in
     let held = held-at sound in
     let room = room-for (a .slice .now) (a .e) (held .0) (held .1) _ (held .2) _ (asked .objection .ensures) (c .before .if1 .left) in
-    (omega (arith, room), o .pre .0 .kind)
+    (omega (arith, room), narrow-now (a .slice .now) (a .e) (held .0) (held .1) _ (held .2) _ (asked .objection .ensures) (o .pre) (c .before .if1 .left))
 
 returns-3 : tie.Need-returns-3
 returns-3 c =

@@ -7,7 +7,7 @@ use Rattle.journal.proofs.post.Statement.{statement}
 use Rattle.journal.proofs.post.Tie as tie
 
 enter-requires : tie.Need-enter-requires
-enter-requires c κs = let a = c .before .before .args in post-asks (a .bib) (a .at) (a .time) (omega arith) (omega arith) (omega arith)
+enter-requires c κs = let a = c .before .before .args in post-asks (a .bib) (a .at) (a .status) (a .time) (omega arith) (omega arith) (omega arith)
 
 returns : tie.Need-returns
 unfolding journalPost

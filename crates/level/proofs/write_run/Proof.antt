@@ -5,6 +5,7 @@ use Prim.Native.Nat.{_+_, _-_, _≤_}
 use native.Mathlib.Omega.{arith}
 use lib.ListN.{length, length-map}
 use lib.Seq.{slice}
+use Rattle.hand.proofs.Turns.{none}
 use Rattle.level.proofs.Turns.{puts-turn, puts-end, small-turn}
 use Rattle.writer.specs.Rows.{puts}
 use Rattle.level.specs.Level.{AllSmall}
@@ -40,7 +41,7 @@ loop-again c =
       search needs,
       search needs,
       search needs,
-      small-turn (a .t3 .entries) (record { kind = 0; key = 0; stamp = 0; value = 0 }) (a .to) (l .j) (l .inv .3) (search needs) (omega (arith, hand-long o)) .1,
+      small-turn (a .t3 .entries) none (a .to) (l .j) (l .inv .3) (search needs) (omega (arith, hand-long o)) .1,
       puts-turn (a .t3 .entries) _ (a .to) _ (l .card) _ (l .i) (l .j) (at-write-entry .write-entry .ensures) (l .inv .4) (search needs) (omega (arith, hand-long o)),
     )
 

@@ -155,7 +155,8 @@ write-entry-requires-2 c κs =
     let o = from-tower levels in
     let f = front-at o in
     let root = ap (λ (e : Entry). e .kind) (c .before .root-entry .ensures) in
-    (omega (arith, shape-at o .long, records-shape (recorded (counted levels)) .long, levels .tower .kept .0), omega arith)
+    let bare = ap (λ (e : Entry). e .status) (c .before .root-entry .ensures) in
+    (omega (arith, shape-at o .long, records-shape (recorded (counted levels)) .long, levels .tower .kept .0), (omega arith, omega arith))
 
 returns : tie.Need-returns
 returns c =

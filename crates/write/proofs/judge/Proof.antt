@@ -95,7 +95,7 @@ count-requires c κs =
     let rd = ready s in
     let w = went q in
     let most = used-within (o .args .head) (now (o .args .card)) (o .args .head .n) in
-    ((rd .shape, rd .reads, rw (c .before .sent-first .ensures) (o .pre .0 .fine .0 .kind, tt)), (omega (arith, lead s .most, w .long), omega (arith, w .long, o .pre .1), omega (arith, o .pre .0 .used, rd .shape .lim .n4096)))
+    ((rd .shape, rd .reads, rw (c .before .sent-first .ensures) ((o .pre .0 .fine .0 .kind, o .pre .0 .fine .0 .status), tt)), (omega (arith, lead s .most, w .long), omega (arith, w .long, o .pre .1), omega (arith, o .pre .0 .used, rd .shape .lim .n4096)))
 
 -- what was counted is what the rule's path needs
 needed : (q : tie.After-count) →

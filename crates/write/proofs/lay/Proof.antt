@@ -61,7 +61,7 @@ rise-requires c κs =
     let o = q .before .before .before .before .before in
     let a = o .args in
     let lim = top-within (a .head) (a .card .now) (o .pre .0 .head) (a .task .entry) _ (go-ahead q .came) (room q) in
-    ((ready q, rw (c .sent-first .ensures) (o .pre .0 .fine .0 .kind, tt), go-ahead q .most), rw (c .sent-first .ensures, go-ahead q .levels, o .pre .0 .used) lim)
+    ((ready q, rw (c .sent-first .ensures) ((o .pre .0 .fine .0 .kind, o .pre .0 .fine .0 .status), tt), go-ahead q .most), rw (c .sent-first .ensures, go-ahead q .levels, o .pre .0 .used) lim)
 
 -- the buckets needed are some, and few
 few : (q : tie.After-needs) → let n = q .before .before .before .before .before .args .v .needs in (1 ≤ n .fresh) × (n .fresh ≤ 4097)

@@ -6,10 +6,11 @@ use Prim.Native.Nat.{_-_, _≤_}
 use lib.ListN.{length}
 use denote.Ref.{now}
 use Rattle.rules.specs.declared.Entry.{Entry}
+use Rattle.laws.proofs.Bytes.{get-bytes}
 use Rattle.rules.specs.Sector.{put, encode}
 use Rattle.writer.specs.Rows.{puts}
 use Rattle.rules.specs.Records.{rolled}
-use Rattle.scroll.proofs.Rolls.{lay-start, lay-stop, lay-more, lay-end}
+use Rattle.scroll.proofs.Rolls.{record-narrow, lay-start, lay-stop, lay-more, lay-end}
 use Rattle.scroll.proofs.roll.lay.Statement.{statement}
 use Rattle.scroll.proofs.roll.lay.Tie as tie
 
@@ -29,7 +30,13 @@ returns c =
     lay-stop (now (a .card)) (a .at) (a .places) (l .i) (l .last) _ (c .before .before .next .ensures) (search needs) _ (l .out) (l .inv .2) (search needs)
 
 write-entry-requires : tie.Need-write-entry-requires Inv-loop μ-loop
-write-entry-requires c κs = let post = ap (λ (e : Entry). e .kind) (c .before .record-of .ensures) in (search needs, omega (arith, post))
+write-entry-requires c κs =
+    let at-next = c .before .before .before .before in
+    let l = at-next .before .before .loop in
+    let lent = at-next .before .before .before .before in
+    let a = lent .before .args in
+    let by = get-bytes (now (a .card)) (λ i. omega (arith, lent .shared-slice-known .given i)) in
+    (search needs, record-narrow (now (a .card)) by (a .at) (l .last) _ _ (at-next .next .ensures) (c .before .before .if1 .left) (c .before .record-of .ensures))
 
 loop-again : tie.Need-loop-again Inv-loop μ-loop
 loop-again c =

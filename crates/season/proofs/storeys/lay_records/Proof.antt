@@ -1,11 +1,12 @@
 -- `storeys::lay_records` lays the records down. Those left, on the card as it is, give what all give on the card that came.
 use borrow.Author.Needs.{needs}
-use mathlib.Core.Path.{_≡_, refl, ap}
+use mathlib.Core.Path.{_≡_, refl}
 use Prim.Native.Nat.{_+_, _-_, _≤_}
 use native.Mathlib.Omega.{arith}
 use lib.ListN.{length}
 use denote.Ref.{now}
-use Rattle.rules.specs.declared.Entry.{Entry}
+use Rattle.laws.proofs.Bytes.{get-bytes}
+use Rattle.scroll.proofs.Rolls.{record-narrow}
 use Rattle.rules.specs.Records.{rolled}
 use Rattle.season.specs.Storeys.{laid, spot}
 use Rattle.season.proofs.Turns.{records-stop, records-more, records-end}
@@ -41,11 +42,16 @@ spot-requires c κs =
 write-entry-requires : tie.Need-write-entry-requires Inv-loop μ-loop
 write-entry-requires c κs =
     let e = c .before .spot .ensures in
-    let post = ap (λ (e : Entry). e .kind) (c .before .before .record-of .ensures) in
-    let l = c .before .before .before .before .before .before .before .loop in
-    let o = c .before .before .before .before .before .before .before .before .before .before in
+    let at-next = c .before .before .before .before .before in
+    let l = at-next .before .before .loop in
+    let lent = at-next .before .before .before .before in
+    let o = lent .before in
+    let a = o .args in
     let k = o .pre .0 .lies (l .j + 1) (omega arith) in
-    (omega (arith, l .inv), omega (arith, post))
+    let by = get-bytes (now (a .card)) (λ i. omega (arith, lent .shared-slice-known .given i)) in (
+      omega (arith, l .inv),
+      record-narrow (now (a .card)) by (a .at) (l .last) _ _ (at-next .next .ensures) (c .before .before .before .if1 .left) (c .before .before .record-of .ensures),
+    )
 
 loop-again : tie.Need-loop-again Inv-loop μ-loop
 loop-again c =
