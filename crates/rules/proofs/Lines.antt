@@ -1,19 +1,21 @@
--- A list of lines that the rules are held to: calls with their answers, season cards, buckets with their sectors, times with their digits.
+-- A list of lines that the rules are held to: calls with their answers, season cards, buckets with their sectors, histories, times with their digits.
 use Prim.Native.Nat.{ℕ, suc}
 use mathlib.Core.Bool.{Bool, true, false}
 use mathlib.Core.List.{List, [], _∷_}
 use mathlib.Core.Option.{Option, none, some}
 use lib.Dec.{eqb}
 use Rattle.rules.specs.declared.Head.{Head}
+use Rattle.rules.specs.declared.Entry.{Entry}
 use Rattle.rules.specs.declared.Sector.{Sector}
 use Rattle.rules.specs.declared.Sector.the-variants.{Blank, Held, Damaged}
 use Rattle.rules.specs.declared.Answer.{Answer}
 use Rattle.rules.specs.declared.Digits.{Digits}
 use Rattle.rules.specs.declared.State.{State}
 use Rattle.rules.specs.Plain.{_&_}
-use Rattle.rules.specs.Sector.{sectorAt, put, decode}
+use Rattle.rules.specs.Sector.{sectorAt, put, encode, decode}
 use Rattle.rules.specs.Layout.{headOf, base}
 use Rattle.rules.specs.Write.{topUsed, planAnswer, planCard}
+use Rattle.rules.specs.History.{history}
 use Rattle.rules.specs.Season.{season}
 use Rattle.rules.specs.State.{state}
 use Rattle.rules.specs.Batch.{batch}
@@ -24,7 +26,8 @@ use Rattle.rules.specs.Bench.{benchCall}
 -- no card any more; a call and its answer; a season card on a target as of a stamp, with buckets, sectors, TD, TI and the number it answers,
 -- which is the card from then on; other bytes in a sector; a call and its answer on the card with other bytes in a sector;
 -- a bucket and its m sectors; the log's first sectors; a sector's bytes; the highest bucket written; the state's eight numbers; a batch's requests
--- and places, its number and answers; a slice lent for a journal; a journal's call and its answer; a time, a field, the number and places it gives
+-- and places, its number and answers; a slice lent for a journal; a journal's call and its answer; a bib, a stamp and the sectors lent for its
+-- history, the number and the sectors it gives; a time, a field, the number and places it gives
 pub data Line : Type 0 where
   anew : Line
   says : Call → Answer → Line
@@ -39,6 +42,7 @@ pub data Line : Type 0 where
   loads : List ℕ → List ℕ → ℕ → List ℕ → Line
   lent : List ℕ → Line
   notes : Ask → Answer → Line
+  recalls : ℕ → ℕ → ℕ → ℕ → List (List ℕ) → Line
   shows : ℕ → ℕ → ℕ → List ℕ → Line
 
 unfoldable pub same : List ℕ → List ℕ → Bool
@@ -86,6 +90,13 @@ sameDigits d c ps = eqb (d .code) c & same (d .places) ps
 unfoldable pub numbersOf : State → List ℕ
 numbersOf s = s .code ∷ s .buckets ∷ s .sectors ∷ s .td ∷ s .ti ∷ s .begin ∷ s .last ∷ s .used ∷ []
 
+-- the sectors of entries are these
+unfoldable pub sectorsOf : List Entry → List (List ℕ) → Bool
+sectorsOf [] [] = true
+sectorsOf [] (s ∷ ss) = false
+sectorsOf (e ∷ es) [] = false
+sectorsOf (e ∷ es) (s ∷ ss) = same (encode e) s & sectorsOf es ss
+
 unfoldable pub right : List ℕ → Line → Bool
 right card anew = true
 right card (says k a) = sameAnswer (benchCall card k .answer) a
@@ -100,6 +111,7 @@ right card (tells ns) = same (numbersOf (state card)) ns
 right card (loads requests places c answers) = let b = batch card requests places in eqb (b .code) c & same (b .answers) answers
 right card (lent slice) = true
 right card (notes q a) = sameAnswer (noted card q .answer) a
+right card (recalls bib t places c ss) = let r = history card bib t places in eqb (r .code) c & sectorsOf (r .records) ss
 right card (shows time field c ps) = sameDigits (panel time field) c ps
 
 unfoldable pub cardNext : List ℕ → Line → List ℕ
@@ -116,6 +128,7 @@ cardNext card (tells ns) = card
 cardNext card (loads requests places c answers) = batch card requests places .card
 cardNext card (lent slice) = slice
 cardNext card (notes q a) = noted card q .card
+cardNext card (recalls bib t places c ss) = card
 cardNext card (shows time field c ps) = card
 
 unfoldable pub passes : List ℕ → List Line → Bool

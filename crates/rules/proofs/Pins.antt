@@ -1,5 +1,5 @@
 -- What cases (a) to (h) leave open: the bytes themselves, the defaults, the limits, each refusal in its order, each kind of damage,
--- the strike just added, cards with a beginning, and journals. One statement over one list, which the checker computes.
+-- the strike just added, cards with a beginning, journals, and what was said of a bib. One statement over one list, which the checker computes.
 use Prim.Native.Nat.{ℕ, _+_, _*_}
 use mathlib.Core.List.{List, [], _∷_, _++_}
 use lib.Dec.{T}
@@ -10,7 +10,7 @@ use Rattle.rules.specs.declared.Sector.the-variants.{Blank, Held}
 use Rattle.rules.specs.Sector.{put, postEntry, strikeEntry, indexEntry, rootEntry}
 use Rattle.rules.specs.Answers.{answer, refused}
 use Rattle.rules.specs.Calls.{Call, formatCall, postCall, strikeCall, lookCall, nextCall, postAsk, strikeAsk, lookAsk, nextAsk}
-use Rattle.rules.proofs.Lines.{Line, anew, says, goesOn, writes, spoilt, holds, logs, bytes, used, tells, loads, lent, notes, shows, passes}
+use Rattle.rules.proofs.Lines.{Line, anew, says, goesOn, writes, spoilt, holds, logs, bytes, used, tells, loads, lent, notes, recalls, shows, passes}
 
 abbrev ok : Call → Line
 ok k = says k (answer 0 0 0 0 0 0)
@@ -447,8 +447,69 @@ journals =
     ∷ notes (strikeAsk 8 2) (refused 0)
     ∷ [])
 
+-- what was said of bib 5, a copy of its last post with it; then on a foreign card, where bucket 8 is out of reach: its sectors are 37..40,
+-- those of bucket 1 are 9..12; and on a season card
+abbrev histories : List Line
+histories =
+    anew
+    ∷ recalls 0 0 0 1 []
+    ∷ ok (formatCall 8 4 3 4)
+    ∷ recalls 0 9 9 2 []
+    ∷ recalls 5 9 0 0 []
+    ∷ ok (postCall 5 1 0 7)
+    ∷ ok (postCall 5 2 3 0)
+    ∷ ok (strikeCall 5 3)
+    ∷ ok (postCall 5 4 0 8)
+    ∷ ok (postCall 6 5 0 9)
+    ∷ ok (postCall 6 6 0 9)
+    ∷ ok (postCall 6 7 0 9)
+    ∷ holds 3 (Held (strikeEntry 0 0) ∷ Held (postEntry 5 4 0 8) ∷ Held (postEntry 6 5 0 9) ∷ Held (postEntry 6 6 0 9) ∷ [])
+    ∷ holds 4 (Held (strikeEntry 0 0) ∷ Held (postEntry 5 4 0 8) ∷ Blank ∷ Blank ∷ [])
+    ∷ recalls 5 9 4 0 (raw 1 0 5 1 7 ∷ raw 1 3 5 2 0 ∷ raw 2 0 5 3 0 ∷ raw 1 0 5 4 8 ∷ [])
+    ∷ recalls 5 3 9 0 (raw 1 0 5 1 7 ∷ raw 1 3 5 2 0 ∷ raw 2 0 5 3 0 ∷ [])
+    ∷ recalls 5 0 0 0 []
+    ∷ recalls 7 9 0 0 []
+    ∷ recalls 5 9 3 15 []
+    ∷ recalls 5 1 0 15 []
+    -- damage and kind 4 where no walk comes, ahead of 15; the log is not judged, nor are runs and the kinds of a bucket
+    ∷ writes 40 (raw 7 0 0 0 0)
+    ∷ recalls 5 1 1 4 []
+    ∷ recalls 5 1 0 4 []
+    ∷ recalls 0 1 0 2 []
+    ∷ writes 40 (raw 4 0 0 1 1)
+    ∷ recalls 5 1 1 4 []
+    ∷ writes 40 (raw 3 0 5 1 1)
+    ∷ writes 8 (raw 7 0 0 0 0)
+    ∷ recalls 5 1 1 0 (raw 1 0 5 1 7 ∷ [])
+    -- one stamp twice: the lowest bucket's first; a strike with stamp 0 is an entry, and a bib's stamp is of no other bib
+    ∷ writes 40 (raw 1 0 5 2 9)
+    ∷ writes 39 (raw 2 0 5 0 0)
+    ∷ writes 37 (raw 1 0 5 9 1)
+    ∷ writes 38 (raw 1 0 5 9 2)
+    ∷ writes 12 (raw 2 0 5 4 0)
+    ∷ writes 11 (raw 1 0 6 4 1)
+    ∷ recalls 5 0 1 0 (raw 2 0 5 0 0 ∷ [])
+    ∷ recalls 5 9 6 0 (raw 2 0 5 0 0 ∷ raw 1 0 5 1 7 ∷ raw 1 3 5 2 0 ∷ raw 2 0 5 3 0 ∷ raw 2 0 5 4 0 ∷ raw 1 0 5 9 1 ∷ [])
+    -- 13 after 2, ahead of 4
+    ∷ writes 0 (headFrom 4 3 4 8 3)
+    ∷ recalls 5 3 4 0 (raw 2 0 5 0 0 ∷ raw 1 0 5 1 7 ∷ raw 1 3 5 2 0 ∷ raw 2 0 5 3 0 ∷ [])
+    ∷ writes 40 (raw 7 0 0 0 0)
+    ∷ recalls 0 2 0 2 []
+    ∷ recalls 5 2 0 13 []
+    ∷ recalls 5 3 0 4 []
+    ∷ anew
+    ∷ ok (formatCall 2 4 3 4)
+    ∷ ok (postCall 5 1 0 7)
+    ∷ ok (postCall 5 2 0 8)
+    ∷ goesOn (blank 2) 3 2 4 0 0 0
+    ∷ ok (strikeCall 5 4)
+    ∷ recalls 5 2 9 13 []
+    ∷ recalls 5 3 9 0 (raw 1 0 5 2 8 ∷ [])
+    ∷ recalls 5 4 2 0 (raw 1 0 5 2 8 ∷ raw 2 0 5 4 0 ∷ [])
+    ∷ []
+
 abbrev pub pins : List Line
-pins = defaults ++ (limits ++ (two ++ (damage ++ (rewritten ++ (passedOver ++ (batches ++ (statuses ++ (begun ++ (fields ++ (seasons ++ journals))))))))))
+pins = defaults ++ (limits ++ (two ++ (damage ++ (rewritten ++ (passedOver ++ (batches ++ (statuses ++ (begun ++ (fields ++ (seasons ++ (journals ++ histories)))))))))))
 
 pub pins-pass : T (passes [] pins)
 unfolding rules

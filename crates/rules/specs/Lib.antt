@@ -10,6 +10,7 @@ pub mod Rewrite
 pub mod Write
 pub mod Format
 pub mod Records
+pub mod History
 pub mod Season
 pub mod State
 pub mod Batch
