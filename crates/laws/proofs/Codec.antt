@@ -57,7 +57,7 @@ unfolding decode
 decode-encode n e l = simp (fields-encode e, l, w n e l, z e)
 
 -- a blank sector is the one of zeros
-zeros-blank : (n : ℕ) (s : List ℕ) → zeros s ≡ true → decode n s ≡ Blank
+pub zeros-blank : (n : ℕ) (s : List ℕ) → zeros s ≡ true → decode n s ≡ Blank
 unfolding decode
 zeros-blank n s z = rw z
 

@@ -26,6 +26,7 @@ pub mod Writes
 pub mod AsMet
 pub mod Follows
 pub mod Mems
+pub mod ByStamp
 pub mod Carries
 pub mod Roots
 pub mod Numbers

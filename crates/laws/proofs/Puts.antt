@@ -127,7 +127,7 @@ each-both P Q (i ∷ is) a b = ((a .0, b .0), each-both P Q is (a .1) (b .1))
 abbrev pub Chain : Head → (Entry → Type 0) → List ℕ → List ℕ → Type 0
 Chain h Q card new = (is : List ℕ) × Puts h Q card is new
 
-chain-same : (h : Head) (Q : Entry → Type 0) (card : List ℕ) → Chain h Q card card
+pub chain-same : (h : Head) (Q : Entry → Type 0) (card : List ℕ) → Chain h Q card card
 chain-same h Q card = ([], refl)
 
 pub chain-more : (h : Head) (Q : Entry → Type 0) (a b c : List ℕ) → Chain h Q a b → Chain h Q b c → Chain h Q a c
@@ -181,7 +181,7 @@ module _ (h : Head) (n4096 : h .n ≤ 4096) (s : ℕ) (s32 : s < 4294967296) (Q 
   key-small [] a = omega arith
   key-small (e ∷ es) a = a .0 .0 .0 .key
 
-  pair-ok : (b : ℕ) (ks : List Entry) → All P ks → 1 ≤ b → b ≤ h .n → P (pair s b ks)
+  pub pair-ok : (b : ℕ) (ks : List Entry) → All P ks → 1 ≤ b → b ≤ h .n → P (pair s b ks)
   pair-ok b ks a lo hi = (pair-fine (h .n) s b (keyOf ks) ks refl (key-small ks a) s32 lo hi n4096, qp b ks)
 
   abbrev Ok : Rise → Type 0

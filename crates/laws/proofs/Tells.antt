@@ -89,6 +89,20 @@ fine-rec n t e f s p =
     let b = and-true (leb 1 (e .stamp)) fits (a .1) in
     (f .0, k, leb-true 1 (e .key) (a .0), leb-true 1 (e .stamp) (b .0), s, b .1)
 
+-- what stands is one of the path's data
+pub stands-all : (P : Entry → Type 0) (t x : ℕ) (p : List Visit) → Along (λ v. All P (v .entries)) p → (e : Entry) → standsOn t x p ≡ some e → P e
+unfolding standsOn standing left
+stands-all P t x p a e s = go (copyOf x (only (λ d. leb (d .stamp) t) (dataOf p))) refl s
+  where
+    post : (d : Entry) → P d → (b : Bool) → if b (some d) none ≡ some e → P e
+    post d c true z = let same : d ≡ e = cc in subst P same c
+    post d c false z = absurd (none-some z)
+
+    go : (o : Option Entry) → copyOf x (only (λ d. leb (d .stamp) t) (dataOf p)) ≡ o → standing o ≡ some e → P e
+    go none c z = absurd (none-some z)
+    go (some d) c z =
+        post d (copy-all P x (only (λ d. leb (d .stamp) t) (dataOf p)) d (only-all P (λ d. leb (d .stamp) t) (dataOf p) (data-along P p a)) c) (isPost d) z
+
 -- what stands where a walk ends
 pub walk-stands : (h : Head) (card : List ℕ) → Bytes card → (t x : ℕ) (p : List Visit) → walk h card t x ≡ some p → (e : Entry) → standsOn t x p ≡ some e → Rec t e
 unfolding standsOn standing left

@@ -78,11 +78,10 @@ top-after h card hq by e a new q =
     (λ j lo hi. let old = top-ge card (1 + h .n) (h .n * h .m) j lo hi in omega arith)
 
 -- what format puts into buckets 1 and 2
-pub format-chain : (h : Head) (card : List ℕ) → 2 ≤ h .n → sizeOf h ≡ length card
-    → Chain h (λ d. d .stamp ≤ 0) card (into h 2 (dummy ∷ []) (into h 1 (indexEntry 0 0 2 ∷ []) card))
-format-chain h card n2 size =
-    let early : Entry → Type 0 = λ d. d .stamp ≤ 0 in
+pub format-chain : (h : Head) (Q : Entry → Type 0) → Q (indexEntry 0 0 2) → Q dummy → (card : List ℕ) → 2 ≤ h .n → sizeOf h ≡ length card
+    → Chain h Q card (into h 2 (dummy ∷ []) (into h 1 (indexEntry 0 0 2 ∷ []) card))
+format-chain h Q qi qd card n2 size =
     let next = into h 1 (indexEntry 0 0 2 ∷ []) card in
-    let one = into-chain h early card size 1 (omega arith) (omega arith) (indexEntry 0 0 2 ∷ []) ((index-fine (h .n) n2, omega arith), tt) in
-    chain-more h early card next (into h 2 (dummy ∷ []) next) one
-    (into-chain h early next (chain-size h early card next size one) 2 (omega arith) n2 (dummy ∷ []) ((dummy-fine (h .n), omega arith), tt))
+    let one = into-chain h Q card size 1 (omega arith) (omega arith) (indexEntry 0 0 2 ∷ []) ((index-fine (h .n) n2, qi), tt) in
+    chain-more h Q card next (into h 2 (dummy ∷ []) next) one
+    (into-chain h Q next (chain-size h Q card next size one) 2 (omega arith) n2 (dummy ∷ []) ((dummy-fine (h .n), qd), tt))

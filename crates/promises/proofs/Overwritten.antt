@@ -24,6 +24,7 @@ use Rattle.laws.proofs.Requests.{well-asks, no-card, ill-asked, asked}
 use Rattle.laws.proofs.Codec.{length-encode}
 use Rattle.laws.proofs.Heads.{Lim, limits-hold, log-fits, head-facts, head-length, head-says}
 use Rattle.laws.proofs.Into.{Stays}
+use Rattle.laws.proofs.Mems.{all-mem}
 use Rattle.laws.proofs.Plans.{no-accept}
 use Rattle.laws.proofs.Puts.{Puts, in-card}
 use Rattle.laws.proofs.Entries.{root-says, Asks, post-asks, strike-asks}
@@ -104,7 +105,7 @@ formatted-left h card l size z =
     let one = sector-put-other card 0 1 head (head-length h 0) (omega arith) (λ e. omega arith) in
     let size2 = sym size ∙ sym l1 ∙ sym l2 in
     let c4 = into h 2 (dummy ∷ []) (into h 1 (indexEntry 0 0 2 ∷ []) c2) in
-    let rest = format-chain h c2 n2 size2 in (
+    let rest = format-chain h (λ d. Unit {0}) tt tt c2 n2 size2 in (
       0 ∷ 1 ∷ rest .0,
       (
         head,
@@ -116,7 +117,7 @@ formatted-left h card l size z =
           zeros-sixteen (sectorAt c1 1) (ap zeros one ∙ zero-sector card 1 z) (sector-length c1 1 (omega arith)),
           length-encode root,
           root-says 0 1,
-          puts-written h (λ d. d .stamp ≤ 0) c2 (rest .0) c4 size2 (rest .1),
+          puts-written h (λ d. Unit {0}) c2 (rest .0) c4 size2 (rest .1),
         ),
       ),
     )
@@ -217,14 +218,14 @@ season-left card by t small target n m td ti (accept new) q =
     let p = to-passed h t target (standingAt card t) new to in
     let lies = log-fits h target (sym (p .long)) in
     let long = length-put target 0 (headBytes h t) (head-length h t) (omega arith) in
-    let rest = season-chain h t target (standingAt card t) new small (standing-records card by t) to in (
+    let rest = season-chain h t target (standingAt card t) new small (standing-records card by t) to (λ d. Unit {0}) (λ b ks. tt) tt (all-mem (λ d. Unit {0}) (standingAt card t .records) (λ d m. tt)) in (
       0 ∷ rest .0,
       (
         headBytes h t,
         zeros-sixteen (sectorAt target 0) (zero-sector target 0 (p .blank)) (sector-length target 0 (omega arith)),
         head-length h t,
         head-says h t,
-        puts-written h (λ d. d .stamp ≤ t) (put target 0 (headBytes h t)) (rest .0) new (sym (p .long) ∙ sym long) (rest .1),
+        puts-written h (λ d. Unit {0}) (put target 0 (headBytes h t)) (rest .0) new (sym (p .long) ∙ sym long) (rest .1),
       ),
     )
 

@@ -208,7 +208,7 @@ module _ (h : Head) (lim : limits h ≡ true) (card : List ℕ) (size : sizeOf h
 
   top4 : stampOn h card4 ≡ 0
   top4 =
-      let le = chain-top h 0 card2 card4 (ready2 .size) (format-chain h card2 n2 (ready2 .size)) (λ j lo hi. let a = ap stampOf (same2 j (omega arith)) in let b = stamps0 j lo in omega arith) in
+      let le = chain-top h 0 card2 card4 (ready2 .size) (format-chain h (λ d. d .stamp ≤ 0) (omega arith) (omega arith) card2 n2 (ready2 .size)) (λ j lo hi. let a = ap stampOf (same2 j (omega arith)) in let b = stamps0 j lo in omega arith) in
       omega arith
 
   pub begun : Keeps h card4 (λ t. nothing) 0 0

@@ -17,5 +17,6 @@ pub mod Keeps
 pub mod Begin
 pub mod Rows
 pub mod Towers
+pub mod Storeys
 pub mod Seasoned
 pub mod Standing

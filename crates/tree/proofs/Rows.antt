@@ -22,7 +22,6 @@ use Rattle.laws.proofs.Entries.{Fine, pair-fine}
 use Rattle.laws.proofs.Halves.{Sorted, follow-low, follow-high, upper-low, upper-high, sorted-low, sorted-high}
 use Rattle.laws.proofs.Heads.{Lim}
 use Rattle.laws.proofs.Lists.{All, all-map, all-both, all-left, all-right, follow-gap, upper}
-use Rattle.laws.proofs.Puts.{Chain, chain-more, into-chain}
 use Rattle.laws.proofs.Tools.{le-or-lt}
 use Rattle.tree.proofs.Content.{Content, isIdx, tree-make, content-low, content-high, content-fresh, shape-sound}
 use Rattle.tree.proofs.Outcome.{keyOf-head}
@@ -100,14 +99,12 @@ pub record Hand (h : Head) (card : List ℕ) (g : ℕ → Option Entry) (s b k l
   pub sorted : Sorted es
   pub content : Content (bucket h card) g k es lo hi
   pub fine : All (Fine (h .n)) es
-  pub early : All (λ e. e .stamp ≤ s) es
 
 -- they are there, and the pairs ps speak for them
 pub record Row (h : Head) (card card' : List ℕ) (g : ℕ → Option Entry) (s b k lo hi f : ℕ) (es ps : List Entry) : Type 0 where
   pub ready : Ready h card' f
   pub front : (j : ℕ) → j < 1 + h .n → sectorAt card' j ≡ sectorAt card j
   pub same : (c : ℕ) (cs : List Entry) → bucket h card c ≡ some cs → bucket h card' c ≡ some cs
-  pub chain : Chain h (λ d. d .stamp ≤ s) card card'
   pub content : Kids (bucket h card') g k ps lo hi
   pub shape : Shape true lo hi ps
   pub sorted : Sorted ps
@@ -136,7 +133,6 @@ module _ (h : Head) (lim : Lim h) (g : ℕ → Option Entry) (s q : ℕ) (s32 : 
   abbrev Laying : List ℕ → ℕ → ℕ → ℕ → ℕ → List Entry → Type 0
   Laying card b k lo hi part =
       Fresh h card (into h b part card) b part × Tree (bucket h (into h b part card)) g k b lo hi
-      × Chain h (λ d. d .stamp ≤ s) card (into h b part card)
 
   lay-part : (card : List ℕ) (b k lo hi : ℕ) (part : List Entry) → Hand h card g s b k lo hi part → b ≤ h .n → length part ≤ q
       → Laying card b k lo hi part
@@ -147,7 +143,6 @@ module _ (h : Head) (lim : Lim h) (g : ℕ → Option Entry) (s q : ℕ) (s32 : 
       let card1 = into h b part card in (
         fb,
         tree-make (bucket h card1) g k b lo hi part (fb .here) (i .shape) (content-fresh (bucket h card) (bucket h card1) g (fb .same) k lo hi part (i .content)),
-        into-chain h (λ d. d .stamp ≤ s) card (i .ready .size) b (i .one) bn part (all-both (Fine (h .n)) (λ d. d .stamp ≤ s) part (i .fine) (i .early)),
       )
 
   row-last : (card : List ℕ) (b k lo hi : ℕ) (part : List Entry) → Hand h card g s b k lo hi part → hi ≤ 4294967296 → lo < hi → b ≤ h .n
@@ -161,7 +156,6 @@ module _ (h : Head) (lim : Lim h) (g : ℕ → Option Entry) (s q : ℕ) (s32 : 
         ready = l .0 .ready;
         front = l .0 .front;
         same = l .0 .same;
-        chain = l .2;
         content = kids-one (bucket h card1) g k lo hi (pair s b part) (p .1) (rw (p .3) (l .1));
         shape = (p .1, (p .0, tt));
         sorted = (tt, tt);
@@ -190,7 +184,6 @@ module _ (h : Head) (lim : Lim h) (g : ℕ → Option Entry) (s q : ℕ) (s32 : 
         sorted = sorted-left part (d ∷ bs) (i .sorted);
         content = content-low (bucket h card) g k lo hi part d bs (i .sorted) dh (i .content);
         fine = all-left (Fine (h .n)) part (d ∷ bs) (i .fine);
-        early = all-left (λ e. e .stamp ≤ s) part (d ∷ bs) (i .early);
       }
 
   -- the entries from d on, with the first part in its bucket
@@ -214,7 +207,6 @@ module _ (h : Head) (lim : Lim h) (g : ℕ → Option Entry) (s q : ℕ) (s32 : 
         content = content-fresh (bucket h card) (bucket h card1) g (fb .same) k (d .key) hi (d ∷ bs)
             (content-high (bucket h card) g k lo hi part d bs (i .sorted) dl (i .content));
         fine = all-right (Fine (h .n)) part (d ∷ bs) (i .fine);
-        early = all-right (λ e. e .stamp ≤ s) part (d ∷ bs) (i .early);
       }
 
   row-more : (card card' : List ℕ) (b k lo hi f : ℕ) (part : List Entry) (d : Entry) (bs ps : List Entry) → Hand h card g s b k lo hi (part ++ (d ∷ bs))
@@ -235,7 +227,6 @@ module _ (h : Head) (lim : Lim h) (g : ℕ → Option Entry) (s q : ℕ) (s32 : 
         ready = w .ready;
         front = λ j lt. w .front j lt ∙ fb .front j lt;
         same = λ c cs z. w .same c cs (fb .same c cs z);
-        chain = chain-more h (λ e. e .stamp ≤ s) card card1 card' (l .2) (w .chain);
         content = kids-cons (bucket h card') g k lo (d .key) hi (pair s b part) ps (p .1) ld dh (w .shape .0) (w .sorted)
             (rw (p .3) (tree-fresh (bucket h card1) (bucket h card') g (w .same) k b lo (d .key) (l .1))) (w .content);
         shape = (

@@ -16,7 +16,7 @@ use Rattle.rules.specs.Format.{dummy, meant}
 use Rattle.rules.specs.Layout.{base, beginning, headBytes, headIn, headOf, limits, sizeOf}
 use Rattle.rules.specs.Plain.{_&_, zeros, andThen, every, lastOf}
 use Rattle.rules.specs.Records.{Roll}
-use Rattle.rules.specs.Rewrite.{Rise}
+use Rattle.rules.specs.Rewrite.{Rise, pair}
 use Rattle.rules.specs.Season.{storey, towerOn, built, rootedOn, seasonOn, seasonTo, seasonFor, season, standingAt}
 use Rattle.rules.specs.Sector.{put, encode, isData, isIndex, isPost, isRoot, legal, statusFits, rootEntry, sectorAt, word}
 use Rattle.rules.specs.Walk.{copyOf, standing}
@@ -29,9 +29,9 @@ use Rattle.laws.proofs.Copies.{copy-cons, cstep}
 use Rattle.laws.proofs.Entries.{Fine, dummy-fine, root-fine, root-says}
 use Rattle.laws.proofs.Halves.{Sorted}
 use Rattle.laws.proofs.Heads.{Lim, head-begins, head-length, head-read, limits-hold, log-fits}
-use Rattle.laws.proofs.Lists.{All, all-map}
+use Rattle.laws.proofs.Lists.{All, all-both, all-map}
 use Rattle.laws.proofs.Plans.{no-accept, not-false, passed}
-use Rattle.laws.proofs.Puts.{Chain, chain-more}
+use Rattle.laws.proofs.Puts.{Chain, chain-more, chain-size}
 use Rattle.laws.proofs.Run.{decode-put, run-agree}
 use Rattle.laws.proofs.Sectors.{length-put, sector-put-other, sector-put-same}
 use Rattle.laws.proofs.Stamps.{bucket-stamps, stamp-blank}
@@ -45,7 +45,8 @@ use Rattle.tree.proofs.Keeps.{Keeps, now-ends}
 use Rattle.tree.proofs.Ready.{Ready}
 use Rattle.tree.proofs.Rows.{Hand, Stamped}
 use Rattle.tree.proofs.State.{State}
-use Rattle.tree.proofs.Towers.{Topped, head-some, row-stack, storey-row, tower-topped, tower-up}
+use Rattle.tree.proofs.Storeys.{storey-chain, tower-chain}
+use Rattle.tree.proofs.Towers.{Topped, head-some, row-stack, storey-row, storey-up, tower-topped, tower-up}
 use Rattle.tree.proofs.Tree.{Span, Tree, tree-fresh}
 
 -- what stands by a list of entries, the last copy of a bib deciding
@@ -75,6 +76,10 @@ dummy-said false (some c) = refl
 dummy-span : Span false 0 4294967296 dummy
 unfolding isIndex isData
 dummy-span = (refl, omega arith, omega arith, refl)
+
+pair-upto : (t b : ℕ) (ks : List Entry) → pair t b ks .stamp ≤ t
+unfolding pair
+pair-upto t b ks = omega arith
 
 -- an entry that can be read is not stamped above the largest stamp
 stamped-top : (h : Head) (card : List ℕ) (s : ℕ) → sizeOf h ≡ length card → Stamped s (bucket h card) → s ≤ stampOn h card
@@ -126,7 +131,6 @@ module _ (h : Head) (lim : limits h ≡ true) (t : ℕ) (t32 : t < 4294967296) (
     sorted = (all-map (Rec t) (λ e. 0 < e .key) (λ e r. let z = r .2 in omega arith) rs (recs .0), recs .1);
     content = λ x p q. ap standing (copy-cons x dummy rs) ∙ dummy-said (eqb 0 x) (copyOf x rs);
     fine = (dummy-fine (h .n), all-map (Rec t) (Fine (h .n)) (rec-fine (h .n) t) rs (recs .0));
-    early = (omega arith, all-map (Rec t) (λ e. e .stamp ≤ t) (λ e r. r .4) rs (recs .0));
   }
 
   topped : Topped h card0 (built h t rs target .card) (said rs) t (built h t rs target .fresh)
@@ -137,7 +141,7 @@ module _ (h : Head) (lim : limits h ≡ true) (t : ℕ) (t32 : t < 4294967296) (
       let count = w .next in
       let some-up = head-some 0 (ground .hand) (w .shape .0) in
       tower-topped h limit (said rs) t t32 card0 (length (ground .hand)) ground 0
-      (row-stack h card0 card0 (ground .card) (said rs) t 1 0 (ground .fresh) (dummy ∷ rs) (ground .hand) w (λ j lt. refl) (w .chain) (omega arith))
+      (row-stack h card0 card0 (ground .card) (said rs) t 1 0 (ground .fresh) (dummy ∷ rs) (ground .hand) w (λ j lt. refl) (omega arith))
       (omega arith) cap
 
   abbrev card1 : List ℕ
@@ -214,10 +218,17 @@ module _ (h : Head) (lim : limits h ≡ true) (t : ℕ) (t32 : t < 4294967296) (
         tall = (top, tp .0, tp .1, omega arith, omega arith);
       }
 
-  chain2 : Chain h (λ d. d .stamp ≤ t) card0 card2
-  chain2 =
+  -- what is put behind the head: the dummy, the records and pairs, whatever is asked of them
+  chain2 : (Q : Entry → Type 0) → ((b : ℕ) (ks : List Entry) → Q (pair t b ks)) → Q dummy → All Q rs → Chain h Q card0 card2
+  unfolding built towerOn
+  chain2 Q qp qd qs =
       let n2 = limit .n2 in
-      chain-more h (λ d. d .stamp ≤ t) card0 card1 card2 (topped .chain) (
+      let hands : All (λ d. Fine (h .n) d × Q d) (dummy ∷ rs) = ((dummy-fine (h .n), qd), all-both (Fine (h .n)) Q rs (all-map (Rec t) (Fine (h .n)) (rec-fine (h .n) t) rs (recs .0)) qs) in
+      let up = tower-up h t (length (ground .hand)) ground in
+      let first = storey-chain h (limit .n4096) t t32 Q qp start (omega arith) (omega arith) (ready0 .size) hands in
+      let low = storey-up h t start in
+      let levels = tower-chain h (limit .n4096) t t32 Q qp (length (ground .hand)) ground (omega arith) cap (chain-size h Q card0 (ground .card) (ready0 .size) (first .0)) (first .1) in
+      chain-more h Q card0 card1 card2 (chain-more h Q card0 (ground .card) card1 (first .0) levels) (
         1 ∷ [],
         (
           root,
@@ -234,7 +245,8 @@ module _ (h : Head) (lim : limits h ≡ true) (t : ℕ) (t32 : t < 4294967296) (
   top2 : stampOn h card2 ≡ t
   top2 =
       let st = topped .stamped in
-      let up = chain-top h t card0 card2 (ready0 .size) chain2 (λ j lo hi. let z = stamp-blank (sectorAt card0 j) (blank0 j (omega arith)) in omega arith) in
+      let put-upto = chain2 (λ d. d .stamp ≤ t) (pair-upto t) (omega arith) (all-map (Rec t) (λ e. e .stamp ≤ t) (λ e r. r .4) rs (recs .0)) in
+      let up = chain-top h t card0 card2 (ready0 .size) put-upto (λ j lo hi. let z = stamp-blank (sectorAt card0 j) (blank0 j (omega arith)) in omega arith) in
       let low = stamped-top h card2 t (sym len2) (st .0, st .1, buckets (st .0) ∙ st .2, st .3) in
       omega arith
 
@@ -299,11 +311,11 @@ season-keeps h t target r new t32 recs q =
 
 -- and is written by entries put at blanks, behind the head
 pub season-chain : (h : Head) (t : ℕ) (target : List ℕ) (r : Roll) (new : List ℕ) → t < 4294967296 → Records t (r .records) → seasonTo h t target r ≡ accept new
-    → Chain h (λ d. d .stamp ≤ t) (put target 0 (headBytes h t)) new
-season-chain h t target r new t32 recs q =
+    → (Q : Entry → Type 0) → ((b : ℕ) (ks : List Entry) → Q (pair t b ks)) → Q dummy → All Q (r .records) → Chain h Q (put target 0 (headBytes h t)) new
+season-chain h t target r new t32 recs q Q qp qd qs =
     let p = to-passed h t target r new q in
-    subst (λ z. Chain h (λ d. d .stamp ≤ t) (put target 0 (headBytes h t)) z) (p .leaves)
-    (chain2 h (p .lim) t t32 target (p .long) (p .blank) (r .records) recs (p .room))
+    subst (λ z. Chain h Q (put target 0 (headBytes h t)) z) (p .leaves)
+    (chain2 h (p .lim) t t32 target (p .long) (p .blank) (r .records) recs (p .room) Q qp qd qs)
 
 for-passed : (card : List ℕ) (t : ℕ) (target : List ℕ) (th : Head) (o : Option Head) (new : List ℕ) → seasonFor card t target th o ≡ accept new
     → (h : Head) × (o ≡ some h) × (beginning card ≤ t) × (seasonTo th t target (standingAt card t) ≡ accept new)

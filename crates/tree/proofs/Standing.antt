@@ -75,14 +75,14 @@ said-none : (x : ℕ) (rs : List Entry) → All (λ d. d .key ≡ x → ⊥) rs 
 unfolding copyOf only lastOf standing
 said-none x rs a = ap standing (copy-low x [] rs a)
 
-said-first : (e : Entry) (rs : List Entry) → e .kind ≡ 1 → All (λ d. e .key < d .key) rs → said (e ∷ rs) (e .key) ≡ some e
+pub said-first : (e : Entry) (rs : List Entry) → e .kind ≡ 1 → All (λ d. e .key < d .key) rs → said (e ∷ rs) (e .key) ≡ some e
 unfolding copyOf only lastOf standing isPost
 said-first e rs k a =
     let c : copyOf (e .key) rs ≡ none = copy-low (e .key) [] rs (all-map (λ d. e .key < d .key) (λ d. d .key ≡ e .key → ⊥) (λ d l z. omega arith) rs a) in
     let f : copyOf (e .key) (e ∷ rs) ≡ some e = copy-cons (e .key) e rs ∙ rw (eq-eqb (e .key) (e .key) refl, c) in
     ap standing f ∙ rw (eq-eqb (e .kind) 1 k)
 
-said-later : (x : ℕ) (e : Entry) (rs : List Entry) → (e .key ≡ x → ⊥) → said (e ∷ rs) x ≡ said rs x
+pub said-later : (x : ℕ) (e : Entry) (rs : List Entry) → (e .key ≡ x → ⊥) → said (e ∷ rs) x ≡ said rs x
 said-later x e rs n = ap standing (copy-cons x e rs ∙ rw (ne-eqb (e .key) x n))
 
 -- a roll that tells all above k that stands, and no refusal

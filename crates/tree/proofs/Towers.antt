@@ -16,8 +16,7 @@ use Rattle.rules.specs.Sector.{sectorAt}
 use Rattle.laws.proofs.Entries.{Fine}
 use Rattle.laws.proofs.Halves.{Sorted}
 use Rattle.laws.proofs.Heads.{Lim}
-use Rattle.laws.proofs.Lists.{All, all-map}
-use Rattle.laws.proofs.Puts.{Chain, chain-more}
+use Rattle.laws.proofs.Lists.{All}
 use Rattle.laws.proofs.Tools.{le-or-lt}
 use Rattle.tree.proofs.Ready.{Ready}
 use Rattle.tree.proofs.Rows.{Hand, Row, FirstAt, Stamped, kids-single, parts-nil, filled-row}
@@ -48,7 +47,6 @@ head-some lo (p ∷ ps) k = omega arith
 pub record Stack (h : Head) (card card' : List ℕ) (g : ℕ → Option Entry) (s k f : ℕ) (ps : List Entry) : Type 0 where
   pub ready : Ready h card' f
   pub front : (j : ℕ) → j < 1 + h .n → sectorAt card' j ≡ sectorAt card j
-  pub chain : Chain h (λ d. d .stamp ≤ s) card card'
   pub content : Kids (bucket h card') g k ps 0 4294967296
   pub shape : Shape true 0 4294967296 ps
   pub sorted : Sorted ps
@@ -59,12 +57,11 @@ pub record Stack (h : Head) (card card' : List ℕ) (g : ℕ → Option Entry) (
 -- so do those of a row, where what was before it is as on the first card
 pub row-stack : (h : Head) (card card1 card' : List ℕ) (g : ℕ → Option Entry) (s b k f : ℕ) (es ps : List Entry)
     → Row h card1 card' g s b k 0 4294967296 f es ps → ((j : ℕ) → j < 1 + h .n → sectorAt card1 j ≡ sectorAt card j)
-    → Chain h (λ d. d .stamp ≤ s) card card' → k + 2 ≤ f → Stack h card card' g s k f ps
-row-stack h card card1 card' g s b k f es ps w front chain high =
+    → k + 2 ≤ f → Stack h card card' g s k f ps
+row-stack h card card1 card' g s b k f es ps w front high =
     record {
       ready = w .ready;
       front = λ j lt. w .front j lt ∙ front j lt;
-      chain = chain;
       content = w .content;
       shape = w .shape;
       sorted = w .sorted;
@@ -77,7 +74,6 @@ row-stack h card card1 card' g s b k f es ps w front chain high =
 pub record Topped (h : Head) (card card' : List ℕ) (g : ℕ → Option Entry) (s f : ℕ) : Type 0 where
   pub ready : Ready h card' f
   pub front : (j : ℕ) → j < 1 + h .n → sectorAt card' j ≡ sectorAt card j
-  pub chain : Chain h (λ d. d .stamp ≤ s) card card'
   pub stamped : Stamped s (bucket h card')
   pub height : ℕ
   pub index : 1 ≤ height
@@ -85,11 +81,11 @@ pub record Topped (h : Head) (card card' : List ℕ) (g : ℕ → Option Entry) 
   pub high : height + 2 ≤ f
 
 -- the number of the next fresh bucket does not fall
-storey-up : (h : Head) (s : ℕ) (r : Rise) → r .fresh ≤ storey h s r .fresh
+pub storey-up : (h : Head) (s : ℕ) (r : Rise) → r .fresh ≤ storey h s r .fresh
 unfolding storey storeyOf
 storey-up h s r = omega arith
 
-until-up : (ps : List Entry) (r : Rise) (on : Rise → Rise) → ((z : Rise) → z .fresh ≤ on z .fresh) → r .fresh ≤ untilOne ps r on .fresh
+pub until-up : (ps : List Entry) (r : Rise) (on : Rise → Rise) → ((z : Rise) → z .fresh ≤ on z .fresh) → r .fresh ≤ untilOne ps r on .fresh
 unfolding untilOne
 until-up [] r on f = omega arith
 until-up (p ∷ []) r on f = omega arith
@@ -135,12 +131,10 @@ module _ (h : Head) (lim : Lim h) (g : ℕ → Option Entry) (s : ℕ) (s32 : s 
           sorted = st .sorted;
           content = st .content;
           fine = st .fine;
-          early = all-map (λ e. e .stamp ≡ s) (λ e. e .stamp ≤ s) (λ e z. omega arith) (r .hand) (st .stamps);
         }) cap in
         let count = w .next in
         let some-up = head-some 0 (up .hand) (w .shape .0) in (
-          row-stack h card (r .card) (up .card) g s (r .fresh) (suc k) (up .fresh) (r .hand) (up .hand) w (st .front)
-              (chain-more h (λ d. d .stamp ≤ s) card (r .card) (up .card) (st .chain) (w .chain)) (omega arith),
+          row-stack h card (r .card) (up .card) g s (r .fresh) (suc k) (up .fresh) (r .hand) (up .hand) w (st .front) (omega arith),
           w .first,
           w .stamped (st .stamps),
           w .next,
@@ -172,7 +166,6 @@ module _ (h : Head) (lim : Lim h) (g : ℕ → Option Entry) (s : ℕ) (s32 : s 
         record {
           ready = st .0 .ready;
           front = st .0 .front;
-          chain = st .0 .chain;
           stamped = st .2;
           height = suc k;
           index = omega arith;
