@@ -31,7 +31,7 @@ pub record Starts (h : Head) (begin : ℕ) (rs : List Entry) (card : List ℕ) :
   pub keeps : Keeps h card (λ t. said rs) begin begin
   pub past : All (λ e. e .stamp ≤ begin) rs
 
-formatted-head : (h : Head) (card : List ℕ) (f : Formatted h card) → meant (f .1) (f .2) (f .3) (f .4) ≡ h
+pub formatted-head : (h : Head) (card : List ℕ) (f : Formatted h card) → meant (f .1) (f .2) (f .3) (f .4) ≡ h
 formatted-head h card f = some-inj (sym (format-keeps (f .0) (f .1) (f .2) (f .3) (f .4) card (formatted-plan h card f) .state .head) ∙ f .7)
 
 pub formatted-starts : (h : Head) (card : List ℕ) → Formatted h card → Starts h 0 [] card
@@ -56,7 +56,7 @@ season-starts source by t small target n m td ti new q =
 
 -- the head is the one meant, and the records are those that stood
 module _ (P : Head → List Entry → Type 0) (h : Head) (t : ℕ) (rs : List Entry) (card : List ℕ) where
-  seasoned-of : ((source : List ℕ) → Bytes source → (target : List ℕ) (n m td ti : ℕ) → t < 4294967296 → season source t target n m td ti ≡ accept card
+  pub seasoned-of : ((source : List ℕ) → Bytes source → (target : List ℕ) (n m td ti : ℕ) → t < 4294967296 → season source t target n m td ti ≡ accept card
       → P (meant n m td ti) (standingAt source t .records)) → Seasoned h t rs card → P h rs
   seasoned-of f (source, target, n, m, td, ti, by, small, q, hq, rq) =
       let bytes = get-bytes source by in

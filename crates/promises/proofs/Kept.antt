@@ -12,6 +12,7 @@ use Rattle.promises.proofs.Copied.{seen-through, copies-of-copies, copi
 use Rattle.promises.proofs.Journals.{journal-holds-the-accepted, journal-tells-the-truth, journal-takes-until-full, six-means-full, journal-overwrites-nothing, journal-is-settled, journal-reads-nothing}
 use Rattle.promises.proofs.Agreed.{journal-answers-alike}
 use Rattle.promises.proofs.Statuses.{status-fits-its-time, misfit-is-refused}
+use Rattle.promises.proofs.History.{only-accepted-stand, accepted-stand, history-tells-the-accepted, one-sequence, history-is-settled}
 
 pub all-kept : Promises
 all-kept =
@@ -55,4 +56,9 @@ all-kept =
       journal-reads-nothing = journal-reads-nothing;
       status-fits-its-time = status-fits-its-time;
       misfit-is-refused = misfit-is-refused;
+      only-accepted-stand = only-accepted-stand;
+      accepted-stand = accepted-stand;
+      history-tells-the-accepted = history-tells-the-accepted;
+      one-sequence = one-sequence;
+      history-is-settled = history-is-settled;
     }

@@ -11,6 +11,8 @@ pub mod Scrolled
 pub mod Stated
 pub mod Batches
 pub mod Copied
+pub mod Known
+pub mod History
 pub mod Journals
 pub mod Agreed
 pub mod Statuses

@@ -14,12 +14,12 @@ use Rattle.rules.specs.Records.{Roll, roll, rolled}
 use Rattle.writer.specs.Rows.{puts}
 use Rattle.scroll.specs.declared.Tally.{Tally}
 use Rattle.scroll.specs.declared.Scroll.{Scroll}
-use Rattle.scroll.specs.Records.{given, recordsIn, recordsOf}
+use Rattle.scroll.specs.Records.{given, recordsIn, recordsOf, tallyOf}
 use Rattle.scroll.specs.Scroll.{lastAfter, after, stepOf}
 use Rattle.promises.specs.Promises.{RecordsAreSettled, ScrollIsSettled, ScrollSaysAgain}
 
 -- a roll with a number beside 0 has no record
-abbrev Bare : Roll → Type 0
+abbrev pub Bare : Roll → Type 0
 Bare r = (r .code ≡ 0 → ⊥) → r .records ≡ []
 
 given-bare : (r : Roll) → Bare (given r)
@@ -40,15 +40,22 @@ records-bare : (card : List ℕ) (at c bib : ℕ) → Bare (recordsOf card at c 
 unfolding recordsOf
 records-bare card at c bib = in-bare card at c bib (headOf card)
 
-pub records-are-settled : RecordsAreSettled
-records-are-settled card bib at out one two new other a b = (
+-- a tally of a roll, and a buffer with its records in a row
+abbrev Laid : Roll → List ℕ → Tally → List ℕ → Type 0
+Laid r out tally new = (tally ≡ tallyOf r) × (new ≡ puts out 0 (r .records))
+
+pub rolls-settled : (r : Roll) → Bare r → (out : List ℕ) (one two : Tally) (new other : List ℕ) → Laid r out one new → Laid r out two other
+    → (one ≡ two) × (new ≡ other) × ((one .code ≡ 0 → ⊥) → (one .count ≡ 0) × (new ≡ out))
+rolls-settled r bare out one two new other a b = (
   a .0 ∙ sym (b .0),
   a .1 ∙ sym (b .1),
   λ n.
-      let r = recordsOf card at (length out / 16) bib in
-      let none-there = records-bare card at (length out / 16) bib (λ z. n (ap (λ (t : Tally). t .code) (a .0) ∙ z)) in
+      let none-there = bare (λ z. n (ap (λ (t : Tally). t .code) (a .0) ∙ z)) in
       (ap (λ (t : Tally). t .count) (a .0) ∙ ap length none-there, a .1 ∙ ap (puts out 0) none-there),
 )
+
+pub records-are-settled : RecordsAreSettled
+records-are-settled card bib at out = rolls-settled (recordsOf card at (length out / 16) bib) (records-bare card at (length out / 16) bib) out
 
 pub scroll-is-settled : ScrollIsSettled
 scroll-is-settled = (

@@ -3,7 +3,7 @@ use mathlib.Core.Option.{Option, none, some}
 use Prim.Native.Nat.{ℕ, _≤_, _<_}
 use mathlib.Core.Path.{refl, sym, ap, subst, _∙_, _≡_}
 use mathlib.Core.Logic.{inl, inr}
-use mathlib.Core.List.{List, _++_}
+use mathlib.Core.List.{List, [], _++_}
 use lib.ListN.{length}
 use lib.Dec.{eqb}
 use borrow.Author.Tests.{ne-eqb, le-ltb, lt-ltb}
@@ -18,6 +18,8 @@ use Rattle.rules.specs.Plain.{if}
 use Rattle.rules.specs.Look.{lookOn, lookIn, look}
 use Rattle.rules.specs.Answers.{refused, sheet}
 use Rattle.rules.specs.Write.{refuse, refuseIf}
+use Rattle.rules.specs.Records.{roll}
+use Rattle.rules.specs.History.{historyIn, history}
 use Rattle.rules.specs.Season.{seasonFor, season}
 use Rattle.laws.proofs.Lists.{all-map}
 use Rattle.tree.proofs.Ends.{ends-here}
@@ -99,6 +101,11 @@ module _ (h : Head) (begin : ℕ) (rs : List Entry) (card : List ℕ) (st : Star
   unfolding season seasonFor refuseIf
   season-before t lt target n m td ti = let begins = ke .begins in rw (ke .state .head, lt-ltb t (beginning new) (omega arith))
 
+  history-before : (bib t : ℕ) → 1 ≤ bib → t < begin → (places : ℕ) → history new bib t places ≡ roll 13 []
+  unfolding history historyIn
+  history-before bib t lo lt places =
+      let begins = ke .begins in rw (ke .state .head, ne-eqb bib 0 (λ z. omega arith), lt-ltb t (beginning new) (omega arith))
+
 pub look-tells-the-truth : LookTellsTheTruth
 look-tells-the-truth h begin rs card b = look-truth h begin rs card (begun-starts h begin rs card b)
 
@@ -125,4 +132,5 @@ nothing-before-the-beginning h begin rs card b calls s bib t lt target n m td ti
       (λ lo. look-before h begin rs card st calls s bib t lt ∙ rw (ne-eqb bib 0 (λ z. omega arith))),
       next-before h begin rs card st calls s bib t lt,
       season-before h begin rs card st calls s t lt target n m td ti,
+      (λ places lo. history-before h begin rs card st calls s bib t lo lt places),
     )

@@ -9,18 +9,22 @@ use lib.ListN.{length, replicate}
 use denote.Ref.{RefT}
 use Rattle.rules.specs.declared.Entry.{Entry}
 use Rattle.rules.specs.declared.Head.{Head}
+use Rattle.rules.specs.declared.Sector.{Sector}
+use Rattle.rules.specs.declared.Sector.the-variants.{Blank, Held, Damaged}
 use Rattle.rules.specs.declared.Answer.{Answer}
 use Rattle.rules.specs.declared.Digits.{Digits}
 use Rattle.rules.specs.declared.State.{State}
 use Rattle.rules.specs.Plain.{zeros}
-use Rattle.rules.specs.Sector.{sectorAt, put, postEntry, strikeEntry, statusFits}
+use Rattle.rules.specs.Sector.{sectorAt, put, decode, isIndex, postEntry, strikeEntry, statusFits}
 use Rattle.rules.specs.Layout.{limits, sizeOf}
-use Rattle.rules.specs.Format.{meant}
+use Rattle.rules.specs.Format.{dummy, meant}
 use Rattle.rules.specs.Walk.{Visit, walk}
 use Rattle.rules.specs.Answers.{answer, refused, sheet, ended}
 use Rattle.rules.specs.Look.{look}
 use Rattle.rules.specs.Next.{next}
 use Rattle.rules.specs.Write.{refuse, accept, planAnswer, planCard, latest, topUsed}
+use Rattle.rules.specs.Records.{roll}
+use Rattle.rules.specs.History.{history}
 use Rattle.rules.specs.Season.{standingAt, season}
 use Rattle.rules.specs.State.{stateOf, state}
 use Rattle.rules.specs.Panel.{panel}
@@ -33,7 +37,7 @@ use Rattle.scroll.specs.declared.Scroll.{Scroll}
 use Rattle.scroll.specs.Records.{recordsOf, tallyOf}
 use Rattle.scroll.specs.Scroll.{after, stepOf}
 use Rattle.promises.specs.Calls.{Accepted, Formatted, Begun, BegunAlike, Sized, OfBytes, Act, AllSized, EachSized, cardBy, cardAfter, accepted, Asks, oneByOne, numbers, Above, Quiet, needed, remaining, seasonNeeds, blankSlice, AsksSized, journalAfter, acceptedIn, cardAnswers, journalAnswers}
-use Rattle.promises.specs.Reading.{upTo, standsAsOf, lastStamp}
+use Rattle.promises.specs.Reading.{upTo, saidOf, standsAsOf, lastStamp}
 
 -- 1. From a card's beginning on, a look answers 0, the bib, and stamp, status and time of the last entry for it stamped t or earlier if
 -- that is a post, else zeros; the entries are the records it began with and those accepted since. It never answers damage.
@@ -64,7 +68,7 @@ NextTellsTheTruth =
     → (k t : ℕ) → k < 4294967296 → begin ≤ t
     → Smallest (λ bib. standsAsOf t bib (rs ++ accepted card calls)) k (next (cardAfter card calls) k t)
 
--- Before the beginning a look for a bib from 1, a next and a season are refused with 13.
+-- Before the beginning a look and a history for a bib from 1, a next and a season are refused with 13.
 abbrev pub NothingBeforeTheBeginning : Type 0
 NothingBeforeTheBeginning =
     (h : Head) (begin : ℕ) (rs : List Entry) (card : List ℕ) → Begun h begin rs card → (calls : List Act) → AllSized calls
@@ -72,6 +76,7 @@ NothingBeforeTheBeginning =
     → (1 ≤ bib → look (cardAfter card calls) bib t ≡ refused 13)
     × (next (cardAfter card calls) bib t ≡ refused 13)
     × (season (cardAfter card calls) t target n m td ti ≡ refuse 13)
+    × ((places : ℕ) → 1 ≤ bib → history (cardAfter card calls) bib t places ≡ roll 13 [])
 
 -- 3. Two cards begun alike, with the same four numbers in the head, whose accepted entries stamped up to t agree
 -- answer every look and next as of t alike, reads included.
@@ -396,6 +401,64 @@ MisfitIsRefused =
     (card : List ℕ) → state card .code ≡ 0 → (bib at status time : ℕ) → 1 ≤ bib → statusFits status time ≡ false
     → called card (postCall bib at status time) .answer ≡ refused 14
 
+-- one of the entries; each of them
+abbrev pub OneOf : Entry → List Entry → Type 0
+OneOf d [] = ⊥
+OneOf d (e ∷ es) = (d ≡ e) ⊎ OneOf d es
+
+abbrev pub Each : (Entry → Type 0) → List Entry → Type 0
+Each P [] = Unit {0}
+Each P (e ∷ es) = P e × Each P es
+
+-- a sector is blank, or holds an index entry, the dummy or one of the entries
+abbrev pub KnownSector : List Entry → Sector → Type 0
+KnownSector es Blank = Unit {0}
+KnownSector es (Held d) = (isIndex d ≡ true) ⊎ ((d ≡ dummy) ⊎ OneOf d es)
+KnownSector es Damaged = ⊥
+
+-- 21. Nothing else stands on a card of ours: every sector of its bucket area is blank, or holds an index entry, the dummy, a record that
+-- the card began with or an entry accepted since.
+abbrev pub OnlyAcceptedStand : Type 0
+OnlyAcceptedStand =
+    (h : Head) (begin : ℕ) (rs : List Entry) (card : List ℕ) → Begun h begin rs card → (calls : List Act) → AllSized calls
+    → (j : ℕ) → 1 + h .n ≤ j → KnownSector (rs ++ accepted card calls) (decode (h .n) (sectorAt (cardAfter card calls) j))
+
+-- And each of these records and entries, strikes too, stands in some sector of it for ever.
+abbrev pub AcceptedStand : Type 0
+AcceptedStand =
+    (h : Head) (begin : ℕ) (rs : List Entry) (card : List ℕ) → Begun h begin rs card → (calls : List Act) → AllSized calls
+    → Each (λ d. (j : ℕ) × (1 + h .n ≤ j) × (j < 1 + h .n + h .n * h .m) × (decode (h .n) (sectorAt (cardAfter card calls) j) ≡ Held d))
+    (rs ++ accepted card calls)
+
+-- 22. From a card's beginning on, the history of a bib as of t is the record for it that the card began with, if any, and every entry accepted
+-- for it up to t, strikes included, in the order of their arrival; 15 where they are more than the sectors lent. It never answers damage.
+abbrev pub HistoryTellsTheAccepted : Type 0
+HistoryTellsTheAccepted =
+    (h : Head) (begin : ℕ) (rs : List Entry) (card : List ℕ) → Begun h begin rs card → (calls : List Act) → AllSized calls
+    → (bib t : ℕ) → 1 ≤ bib → begin ≤ t → (places : ℕ)
+    → let said = saidOf bib t (rs ++ accepted card calls) in
+    ((length said ≤ places) × (history (cardAfter card calls) bib t places ≡ roll 0 said))
+    ⊎ ((places < length said) × (history (cardAfter card calls) bib t places ≡ roll 15 []))
+
+-- 23. No two sequences of accepted entries leave the same card, of those that begin with a format.
+abbrev pub OneSequence : Type 0
+OneSequence =
+    (h g : Head) (card other : List ℕ) → Formatted h card → Formatted g other
+    → (calls others : List Act) → AllSized calls → AllSized others
+    → cardAfter card calls ≡ cardAfter other others → (h ≡ g) × (accepted card calls ≡ accepted other others)
+
+-- an outcome of a history: the tally, and the bytes of the lent buffer afterwards; the card is only read
+abbrev pub FitsHistory : List ℕ → ℕ → ℕ → List ℕ → Tally → List ℕ → Type 0
+FitsHistory card bib at out tally new =
+    let told = history card bib at (length out / 16) in (tally ≡ tallyOf told) × (new ≡ puts out 0 (told .records))
+
+-- 24. What is said of a history settles both; and refused, it leaves the buffer as it was, with 0 beside the number.
+abbrev pub HistoryIsSettled : Type 0
+HistoryIsSettled =
+    (card : List ℕ) (bib at : ℕ) (out : List ℕ) (one two : Tally) (new other : List ℕ)
+    → FitsHistory card bib at out one new → FitsHistory card bib at out two other
+    → (one ≡ two) × (new ≡ other) × ((one .code ≡ 0 → ⊥) → (one .count ≡ 0) × (new ≡ out))
+
 -- All that is promised. `promised` in src/ asks for a term of it, so that a promise without its proof fails the check.
 pub record Promises : Type 0 where
   pub look-tells-the-truth : LookTellsTheTruth
@@ -437,3 +500,8 @@ pub record Promises : Type 0 where
   pub journal-reads-nothing : JournalReadsNothing
   pub status-fits-its-time : StatusFitsItsTime
   pub misfit-is-refused : MisfitIsRefused
+  pub only-accepted-stand : OnlyAcceptedStand
+  pub accepted-stand : AcceptedStand
+  pub history-tells-the-accepted : HistoryTellsTheAccepted
+  pub one-sequence : OneSequence
+  pub history-is-settled : HistoryIsSettled

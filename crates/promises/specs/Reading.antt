@@ -11,6 +11,15 @@ unfoldable pub upTo : ℕ → List Entry → List Entry
 upTo t [] = []
 upTo t (e ∷ es) = elim (leb (e .stamp) t) [ true ↦ e ∷ upTo t es | false ↦ upTo t es ]
 
+-- the entries for the bib
+unfoldable pub entriesFor : ℕ → List Entry → List Entry
+entriesFor bib [] = []
+entriesFor bib (e ∷ es) = elim (eqb (e .key) bib) [ true ↦ e ∷ entriesFor bib es | false ↦ entriesFor bib es ]
+
+-- everything said of a bib up to t
+unfoldable pub saidOf : ℕ → ℕ → List Entry → List Entry
+saidOf bib t es = entriesFor bib (upTo t es)
+
 -- of an entry and the last one for the bib behind it: that one, or the entry itself if it is for the bib
 unfoldable pub lastFrom : ℕ → Entry → Option Entry → Option Entry
 lastFrom bib e none = elim (eqb (e .key) bib) [ true ↦ some e | false ↦ none ]
