@@ -27,6 +27,7 @@ pub mod AsMet
 pub mod Follows
 pub mod Mems
 pub mod ByStamp
+pub mod Areas
 pub mod Carries
 pub mod Roots
 pub mod Numbers

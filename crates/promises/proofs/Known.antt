@@ -21,6 +21,7 @@ use Rattle.rules.specs.Rewrite.{into, pair}
 use Rattle.rules.specs.Sector.{sectorAt, put, encode, decode, isIndex, isData, indexEntry, rootEntry}
 use Rattle.rules.specs.Season.{season, standingAt}
 use Rattle.rules.specs.Write.{accept, plan, latest}
+use Rattle.laws.proofs.Areas.{Stands}
 use Rattle.laws.proofs.Buckets.{bucket-in, bucket-raw, bucket-within}
 use Rattle.laws.proofs.Bytes.{Bytes, run-good}
 use Rattle.laws.proofs.ByStamp.{Up, up-snoc}
@@ -50,10 +51,7 @@ use Rattle.promises.proofs.Numbers.{formatted-plan}
 use Rattle.promises.proofs.Begun.{begun-starts, formatted-head, season-starts, seasoned-of}
 use Rattle.promises.proofs.Since.{Since, calls-since}
 
--- d can be read in one of the sectors lo .. hi - 1
-abbrev pub Stands : ℕ → List ℕ → ℕ → ℕ → Entry → Type 0
-Stands n card lo hi d = (j : ℕ) × (lo ≤ j) × (j < hi) × (decode n (sectorAt card j) ≡ Held d)
-
+-- d can be read in the bucket area
 abbrev pub There : Head → List ℕ → Entry → Type 0
 There h card = Stands (h .n) card (1 + h .n) (1 + h .n + h .n * h .m)
 

@@ -2,12 +2,12 @@
 use mathlib.Core.Path.{_≡_, refl, ap, ap₂, sym, _∙_}
 use mathlib.Core.Logic.{⊎-elim}
 use mathlib.Core.Bool.{Bool, true, false}
-use mathlib.Core.List.{List, _++_}
+use mathlib.Core.List.{List, [], _++_}
 use Prim.Native.Nat.{ℕ, zero, suc, _+_, _-_, _*_, _≤_, _<_, max}
 use native.Mathlib.Nat.{max-zero, max-comm, mul-comm, mul-add, suc-mul, mul-le-mul, mul-le-mul-right}
 use native.Mathlib.Numerals.{add-one}
 use native.Mathlib.Omega.{arith}
-use lib.ListN.{length, take, drop, getD, length-drop, take-append-drop}
+use lib.ListN.{length, take, drop, getD, length-drop, drop-of-length-le, take-append-drop}
 use lib.Dec.{eqb, leb}
 use lib.Seq.{length-take-le, take-append-add, drop-drop}
 use borrow.Author.Tests.{eq-eqb, le-leb}
@@ -180,6 +180,21 @@ module _ (h : Head) (card : List ℕ) (b : ℕ) (sh : Shape h card) (blank : zer
 
   pub survey-rest : b ≤ h .n → surveyOf h card (h .n) ≡ surveyOf h card b
   survey-rest le = ap (surveyOf h card) (let z : h .n ≡ b + (h .n - b) = omega arith in z) ∙ up (h .n - b) (omega arith)
+
+-- the bytes behind so many buckets; behind the last of all there is none
+pub behind-zero : (h : Head) (card : List ℕ) (b : ℕ) → zeros (drop (16 * base h (b + 1)) card) ≡ true → zeros (drop (16 * (1 + h .n + b * h .m)) card) ≡ true
+unfolding base
+behind-zero h card b z =
+    let one : b + 1 - 1 ≡ b = omega arith in
+    let same : h .m * (b + 1 - 1) ≡ b * h .m = ap (λ (k : ℕ). h .m * k) one ∙ mul-comm (h .m) b in
+    rw same at z
+
+pub behind-all : (h : Head) (card : List ℕ) → Shape h card → zeros (drop (16 * (1 + h .n + h .n * h .m)) card) ≡ true
+unfolding sizeOf zeros
+behind-all h card sh =
+    let long = sh .long in
+    let none-left : drop (16 * (1 + h .n + h .n * h .m)) card ≡ [] = drop-of-length-le card {i = 16 * (1 + h .n + h .n * h .m)} (omega arith) in
+    rw none-left
 
 -- from behind: a bucket of zeros is passed by, the first other one is the highest
 module _ (h : Head) (card : List ℕ) (b : ℕ) (sh : Shape h card) (some : 0 < b) (le : b ≤ h .n) where

@@ -1,9 +1,9 @@
 // The bucket area looked through: the stamps in it, and the highest bucket with a nonzero byte.
 use rules::Head;
 ghost use mathlib.Core.Path.{_≡_};
-ghost use mathlib.Core.Bool.{false};
+ghost use mathlib.Core.Bool.{true, false};
 ghost use Prim.Native.Nat.{_+_, _-_, _*_, _≤_, _<_, max};
-ghost use lib.ListN.{length};
+ghost use lib.ListN.{length, drop};
 ghost use lib.Dec.{leb};
 ghost use Rattle.rules.specs.Plain.{_or_, zeros};
 ghost use Rattle.rules.specs.Write.{stampOf, topStamp, topUsed, stampOn};
@@ -123,6 +123,7 @@ fn guess(card: &[u8], head: Head) -> usize
 fn written(card: &[u8], head: Head) -> usize
     requires { ⌜ Shape head (now card) ⌝ }
     ensures { λ r. ⌜ (r ≤ head .n) × (surveyOf head (now (card .entry)) (head .n) ≡ surveyOf head (now (card .entry)) r) ⌝ }
+    ensures { λ r. ⌜ zeros (drop (16 * (1 + head .n + r * head .m)) (now (card .entry))) ≡ true ⌝ }
 {
     let n = head.n;
     let b = guess(card, head);
@@ -134,6 +135,15 @@ fn written(card: &[u8], head: Head) -> usize
         return n;
     }
     n
+}
+
+// The number of the sector behind the last bucket that need be read: every byte from it on is zero.
+pub fn end(card: &[u8], head: Head) -> usize
+    requires { ⌜ Shape head (now card) ⌝ }
+    ensures { λ r. ⌜ (1 + head .n ≤ r) × (16 * r ≤ length (now (card .entry))) × (zeros (drop (16 * r) (now (card .entry))) ≡ true) ⌝ }
+{
+    let last = written(card, head);
+    behind(card, head, last)
 }
 
 // Whether every byte of a bucket is zero. A written one mostly shows by its first byte that it was written.

@@ -10,7 +10,7 @@ use Rattle.survey.proofs.survey.Tie as tie
 returns : tie.Need-returns
 unfolding surveyOf stampOn
 returns c =
-    let all = sym (c .before .before .written .ensures .1) in
+    let all = sym (c .before .before .written .ensures .0 .1) in
     (c .before .largest .ensures ∙ ap (λ (s : Area). s .stamp) all, c .highest .ensures ∙ ap (λ (s : Area). s .used) all)
 
 pub survey-spec : {M : Type 1} → statement M

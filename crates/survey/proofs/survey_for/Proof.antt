@@ -12,7 +12,7 @@ returns : tie.Need-returns
 unfolding surveyOf stampOn
 returns c =
     let at-written = c .before .before in
-    let all = sym (at-written .written .ensures .1) in
+    let all = sym (at-written .written .ensures .0 .1) in
     let at = at-written .before .before .args .at in
     (c .before .too-late .ensures ∙ ap (λ (s : Area). leb at (s .stamp)) all, c .highest .ensures ∙ ap (λ (s : Area). s .used) all)
 
