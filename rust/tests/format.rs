@@ -1,7 +1,7 @@
-//! The two cards that docs/FORMAT.md shows: their bytes were written down by hand from the rules. The calls it
-//! names leave just these bytes, and its questions have the answers it gives.
+//! The two cards and the journal that docs/FORMAT.md shows: their bytes were written down by hand from the
+//! rules. The calls it names leave just these bytes, and its questions have the answers it gives.
 
-use card::{Look, Record, Refusal, Request, Shape, State, Status};
+use card::{journal, Look, Record, Refusal, Request, Shape, State, Status};
 
 const PAGE: &str = include_str!("../../docs/FORMAT.md");
 
@@ -9,10 +9,11 @@ const SEVEN: Record = Record { bib: 7, at: 100, status: Status::Timed, time: Som
 const NINE: Record = Record { bib: 9, at: 130, status: Status::Timed, time: Some(58_120) };
 const TWELVE: Record = Record { bib: 12, at: 110, status: Status::Timed, time: Some(61_230) };
 
-/// A line of the dump: its place and its sixteen bytes. Other lines of the page have no such words.
-fn sector(line: &str) -> Option<(usize, Vec<u8>)> {
+/// A line of a dump: its place, of so many digits, and its sixteen bytes. Other lines of the page have no such
+/// words.
+fn sector(line: &str, digits: usize) -> Option<(usize, Vec<u8>)> {
     let mut words = line.split_whitespace();
-    let place = usize::from_str_radix(words.next().filter(|word| word.len() == 4)?, 16).ok()?;
+    let place = usize::from_str_radix(words.next().filter(|word| word.len() == digits)?, 16).ok()?;
     let bytes: Option<Vec<u8>> = words.take(16).map(|word| u8::from_str_radix(word, 16).ok()).collect();
     bytes.filter(|bytes| bytes.len() == 16).map(|bytes| (place, bytes))
 }
@@ -20,7 +21,7 @@ fn sector(line: &str) -> Option<(usize, Vec<u8>)> {
 /// The page's two cards; place 0 begins one.
 fn cards() -> [Vec<u8>; 2] {
     let mut cards: Vec<Vec<u8>> = Vec::new();
-    for (place, bytes) in PAGE.lines().filter_map(sector) {
+    for (place, bytes) in PAGE.lines().filter_map(|line| sector(line, 4)) {
         if place == 0 {
             cards.push(Vec::new());
         }
@@ -108,4 +109,36 @@ fn the_season_card_is_as_the_page_says() {
     assert_eq!(card::look(&season, 12, 139), Err(Refusal::TooEarly));
     assert_eq!(card::look(&season, 0, 139), Err(Refusal::NoBib));
     assert_eq!(card::post(&mut season, 7, 140, Status::Timed, 1), Err(Refusal::Stamp));
+}
+
+/// The page's journal, whose places have two digits.
+fn dumped_journal() -> Vec<u8> {
+    let mut journal = Vec::new();
+    for (place, bytes) in PAGE.lines().filter_map(|line| sector(line, 2)) {
+        assert_eq!(place, journal.len(), "each line begins where the one before it ends");
+        journal.extend(bytes);
+    }
+    assert_eq!(journal.len(), 80, "five sectors");
+    journal
+}
+
+#[test]
+fn the_journal_is_as_the_page_says() {
+    let mut journal = vec![0; 80];
+    journal::post(&mut journal, 7, 100, Status::Timed, 59_990).unwrap();
+    journal::post(&mut journal, 12, 110, Status::Timed, 61_230).unwrap();
+    journal::strike(&mut journal, 7, 120).unwrap();
+    journal::post(&mut journal, 9, 130, Status::Timed, 58_120).unwrap();
+    assert_eq!(journal, dumped_journal());
+    for (bib, at, record) in [(7, 115, Some(SEVEN)), (7, 130, None)] {
+        assert_eq!(journal::look(&journal, bib, at), Ok(record), "{bib} as of {at}");
+    }
+    for (bib, at, record) in [(0, 115, Some(SEVEN)), (0, 130, Some(NINE)), (12, 130, None)] {
+        assert_eq!(journal::next(&journal, bib, at), Ok(record), "above {bib} as of {at}");
+    }
+    assert_eq!(journal::strike(&mut journal, 7, 140), Err(Refusal::NothingStands));
+    assert_eq!(journal::post(&mut journal, 3, 130, Status::Timed, 1), Err(Refusal::Stamp));
+    assert_eq!(journal, dumped_journal());
+    assert_eq!(journal::post(&mut journal, 3, 140, Status::Timed, 1), Ok(()));
+    assert_eq!(journal::post(&mut journal, 4, 150, Status::Timed, 1), Err(Refusal::Full));
 }
