@@ -2,7 +2,7 @@
 
 use crate::numbers::{self, Answer};
 use crate::refusal::refused;
-use crate::{Answers, Look, Panel, Record, Records, Refusal, Shape, State, Status};
+use crate::{Answers, History, Look, Panel, Record, Records, Refusal, Shape, State, Status};
 
 /// The answer of an accepted call, or the refusal.
 pub(crate) fn accepted(answer: Answer) -> Result<Answer, Refusal> {
@@ -164,6 +164,42 @@ pub fn records<'a>(card: &[u8], bib: u32, at: u32, out: &'a mut [u8]) -> Result<
     match refused(tally.code) {
         Some(refusal) => Err(refusal),
         None => Ok(Records::of(out, tally.count)),
+    }
+}
+
+/// Everything ever said of a bib up to a stamp: its posts and strikes, each once, by rising stamp. On a season
+/// card that begins with the record it began with, if there was one. They lie at the start of `out` as sectors of
+/// 16 bytes each, laid out as [`crate::Request::sector`] gives them; the bytes behind them stay.
+///
+/// Refused as [`Refusal::Layout`], [`Refusal::NoBib`], [`Refusal::TooEarly`], [`Refusal::Damage`] where any sector
+/// of the buckets is damaged, on a path or not, or [`Refusal::NoRoom`] where `out` does not hold them all, the
+/// first of these that holds. Then `out` is as it was.
+///
+/// ```
+/// # use card::{Refusal, Shape, Status};
+/// # let mut bytes = vec![0; Shape::new(16, 4).bytes().unwrap()];
+/// # card::format(&mut bytes, Shape::new(16, 4))?;
+/// use card::Entry;
+///
+/// card::post(&mut bytes, 7, 100, Status::Timed, 59_990)?;
+/// card::post(&mut bytes, 5, 105, Status::Timed, 58_120)?;
+/// card::post(&mut bytes, 7, 110, Status::Disqualified, 0)?;
+/// card::strike(&mut bytes, 7, 120)?;
+/// let mut page = [0; 16 * 20];
+/// let mut said = card::history(&bytes, 7, 120, &mut page)?;
+/// assert_eq!(said.len(), 3);
+/// assert!(matches!(said.next(), Some(Entry::Post(record)) if record.time == 59_990));
+/// assert_eq!(said.next().unwrap().at(), 110);
+/// assert_eq!(said.next(), Some(Entry::Strike { bib: 7, at: 120 }));
+/// assert_eq!(card::history(&bytes, 7, 119, &mut page)?.len(), 2);
+/// assert_eq!(card::history(&bytes, 7, 120, &mut page[..47]).map(drop), Err(Refusal::NoRoom));
+/// # Ok::<(), Refusal>(())
+/// ```
+pub fn history<'a>(card: &[u8], bib: u32, at: u32, out: &'a mut [u8]) -> Result<History<'a>, Refusal> {
+    let tally = numbers::history(card, bib, at, out);
+    match refused(tally.code) {
+        Some(refusal) => Err(refusal),
+        None => Ok(History::of(out, tally.count)),
     }
 }
 

@@ -34,6 +34,7 @@
 
 mod answers;
 mod calls;
+mod history;
 pub mod journal;
 pub mod numbers;
 mod panel;
@@ -47,7 +48,8 @@ mod state;
 mod status;
 
 pub use answers::Answers;
-pub use calls::{batch, digits, format, look, next, post, records, season, state, strike};
+pub use calls::{batch, digits, format, history, look, next, post, records, season, state, strike};
+pub use history::{Entry, History};
 pub use panel::Panel;
 pub use record::{Look, Record};
 pub use records::Records;

@@ -21,13 +21,13 @@ pub struct Answer {
     pub reads: u32,
 }
 
-/// The answer to [`records`]: its number, 0 or a refusal, and how many were laid down.
+/// The answer to [`records`] and to [`history`]: its number, 0 or a refusal, and how many were laid down.
 #[repr(C)]
 #[derive(Clone, Copy, Debug, Default, PartialEq, Eq)]
 pub struct Tally {
     /// 0, or the number of a refusal.
     pub code: u32,
-    /// The records laid down.
+    /// The records or entries laid down.
     pub count: usize,
 }
 
@@ -86,6 +86,14 @@ mod library {
         pub fn card_look(card: *const u8, len: usize, bib: u32, at: u32) -> Answer;
         pub fn card_next(card: *const u8, len: usize, bib: u32, at: u32) -> Answer;
         pub fn card_records(
+            card: *const u8,
+            len: usize,
+            bib: u32,
+            at: u32,
+            out: *mut u8,
+            room: usize,
+        ) -> Tally;
+        pub fn card_history(
             card: *const u8,
             len: usize,
             bib: u32,
@@ -167,6 +175,11 @@ pub fn next(card: &[u8], bib: u32, at: u32) -> Answer {
 /// As [`crate::records`].
 pub fn records(card: &[u8], bib: u32, at: u32, out: &mut [u8]) -> Tally {
     unsafe { library::card_records(card.as_ptr(), card.len(), bib, at, out.as_mut_ptr(), out.len()) }
+}
+
+/// As [`crate::history`].
+pub fn history(card: &[u8], bib: u32, at: u32, out: &mut [u8]) -> Tally {
+    unsafe { library::card_history(card.as_ptr(), card.len(), bib, at, out.as_mut_ptr(), out.len()) }
 }
 
 /// As [`crate::season`]: 0, or the number of its refusal.

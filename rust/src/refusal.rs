@@ -35,10 +35,12 @@ pub enum Refusal {
     TooEarly = 13,
     /// 14: a status above 3, or a time beside another status than timed.
     NoStatus = 14,
+    /// 15: the buffer is too short for all that was said of the bib.
+    NoRoom = 15,
 }
 
 impl Refusal {
-    const ALL: [Refusal; 13] = [
+    const ALL: [Refusal; 14] = [
         Refusal::Layout,
         Refusal::NoBib,
         Refusal::Stamp,
@@ -52,6 +54,7 @@ impl Refusal {
         Refusal::Unpaired,
         Refusal::TooEarly,
         Refusal::NoStatus,
+        Refusal::NoRoom,
     ];
 
     /// The answer number.
@@ -107,6 +110,7 @@ impl fmt::Display for Refusal {
             Refusal::Unpaired => "the requests are not whole or not as many as the answers",
             Refusal::TooEarly => "the stamp asked about is before the card's beginning",
             Refusal::NoStatus => "the status is none, or has a time beside it",
+            Refusal::NoRoom => "the buffer is too short",
         })
     }
 }

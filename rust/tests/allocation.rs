@@ -137,6 +137,41 @@ fn journals(side: &JournalCalls) -> Tally {
     tally
 }
 
+/// Histories on cards that filled up, in buffers that suffice and others, and on what is no card; by number.
+fn histories(side: &Calls) -> Tally {
+    let mut tally = Tally::default();
+    for seed in 1..=20 {
+        let mut random = Random::new(seed);
+        let mut card = vec![0; length(40, 5)];
+        (side.format)(&mut card, 40, 5, 0, 0);
+        for at in 1..=90 {
+            (side.post)(&mut card, random.within(1, 3), at, 0, at);
+        }
+        // the beginning, then the last sector of no kind, then the head
+        let last = card.len() - 16;
+        for (place, byte) in [(8, 0), (8, 2), (last, 7), (0, 7)] {
+            card[place] = byte;
+            for (bib, at, room) in [(1, u32::MAX, 1600), (1, u32::MAX, 15), (0, 2, 0), (2, 1, 1600)] {
+                let mut out = vec![0; room];
+                let (given, count) = asked(|| (side.history)(&card, bib, at, &mut out));
+                assert_eq!(count, 0, "answered {given:?}");
+                tally[given.code as usize] += 1;
+            }
+        }
+    }
+    tally
+}
+
+#[test]
+fn no_history_of_either_allocates() {
+    for side in [LIBRARY, MODEL] {
+        let tally = histories(&side);
+        for number in [0, 1, 2, 4, 13, 15] {
+            assert!(tally[number] > 0, "no history was answered {number}");
+        }
+    }
+}
+
 #[test]
 fn no_call_on_a_journal_allocates() {
     for side in [LIBRARY_JOURNAL, MODEL_JOURNAL] {

@@ -33,7 +33,7 @@ fn each_refusal_by_its_name() {
 }
 
 /// Each number, its name and its words.
-const SAID: [(u32, Refusal, &str); 13] = [
+const SAID: [(u32, Refusal, &str); 14] = [
     (1, Refusal::Layout, "the card's head or length breaks the layout"),
     (2, Refusal::NoBib, "bib 0 is no bib"),
     (3, Refusal::Stamp, "the stamp is not above the largest on the card"),
@@ -47,6 +47,7 @@ const SAID: [(u32, Refusal, &str); 13] = [
     (12, Refusal::Unpaired, "the requests are not whole or not as many as the answers"),
     (13, Refusal::TooEarly, "the stamp asked about is before the card's beginning"),
     (14, Refusal::NoStatus, "the status is none, or has a time beside it"),
+    (15, Refusal::NoRoom, "the buffer is too short"),
 ];
 
 #[test]
@@ -56,7 +57,7 @@ fn numbers_names_and_words() {
         assert_eq!((u32::from(refusal), refusal.number()), (number, number));
         assert_eq!(refusal.to_string(), words);
     }
-    for number in [0, 10, 15, u32::MAX] {
+    for number in [0, 10, 16, u32::MAX] {
         assert_eq!(Refusal::try_from(number), Err(NoRefusal(number)));
         assert_eq!(NoRefusal(number).to_string(), format!("no refusal has the number {number}"));
     }

@@ -85,6 +85,20 @@ fn on_cards_of_ours() {
     assert!(records <= most && stack::of_digits(LIBRARY) <= most, "records take {records}");
 }
 
+/// A history of more entries than are gathered at once, on a card of ours with nothing blank but its end.
+#[test]
+fn a_history() {
+    let geometry = Geometry { buckets: 400, sectors: 4, td: 2, ti: 4 };
+    let mut card = vec![0; geometry.length()];
+    geometry.format().run(&MODEL, &mut card);
+    for at in 1..=300 {
+        assert_eq!((MODEL.post)(&mut card, 7, at, 0, at).code, 0);
+    }
+    let mut out = vec![0; 16 * 300];
+    let taken = stack::on_a_thread(|| assert_eq!((LIBRARY.history)(&card, 7, 300, &mut out).count, 300));
+    assert!(taken <= said("CARD_STACK_OURS"), "a history takes {taken}");
+}
+
 /// What a season copy to the largest card of this geometry takes; it has to be accepted.
 fn of_season(card: &[u8], sectors: u32) -> usize {
     let mut target = vec![0; length(4096, sectors)];

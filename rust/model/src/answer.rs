@@ -19,3 +19,10 @@ impl Answer {
         Answer { code, ..Answer::ACCEPTED }
     }
 }
+
+/// What a call answers that lays down sectors: its number, and how many they are.
+#[derive(Clone, Copy, Debug, Default, PartialEq, Eq)]
+pub struct Tally {
+    pub code: u32,
+    pub count: usize,
+}

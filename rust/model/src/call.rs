@@ -1,6 +1,6 @@
 //! The calls as a table and as values, so that one check runs against any implementation.
 
-use crate::{journal, Answer, Digits, State};
+use crate::{journal, Answer, Digits, State, Tally};
 
 /// A season card: the source and its stamp, the target and its geometry.
 pub type Copying = fn(&[u8], u32, &mut [u8], u32, u32, u32, u32) -> u32;
@@ -15,6 +15,7 @@ pub struct Calls {
     pub look: fn(&[u8], u32, u32) -> Answer,
     pub next: fn(&[u8], u32, u32) -> Answer,
     pub season: Copying,
+    pub history: fn(&[u8], u32, u32, &mut [u8]) -> Tally,
     pub state: fn(&[u8]) -> State,
     pub digits: fn(u32, u32) -> Digits,
 }
@@ -28,6 +29,7 @@ pub const MODEL: Calls = Calls {
     look: crate::look,
     next: crate::next,
     season: crate::season,
+    history: crate::history,
     state: crate::state,
     digits: crate::digits,
 };

@@ -13,6 +13,7 @@ mod blank;
 mod bucket;
 pub mod call;
 mod head;
+mod history;
 pub mod journal;
 pub mod list;
 mod log;
@@ -32,8 +33,9 @@ mod turn;
 mod walk;
 mod writing;
 
-pub use answer::Answer;
+pub use answer::{Answer, Tally};
 pub use batch::batch;
+pub use history::history;
 pub use panel::{digits, Digits};
 pub use reading::{look, next};
 pub use season::season;

@@ -8,6 +8,7 @@ pub mod deep;
 pub mod foreign;
 pub mod growth;
 pub mod guarded;
+pub mod history;
 pub mod journal;
 pub mod listed;
 pub mod mutate;
@@ -31,6 +32,10 @@ pub const LIBRARY: Calls = Calls {
     look: |card, bib, at| answer(card::numbers::look(card, bib, at)),
     next: |card, bib, at| answer(card::numbers::next(card, bib, at)),
     season: card::numbers::season,
+    history: |card, bib, at, out| {
+        let card::numbers::Tally { code, count } = card::numbers::history(card, bib, at, out);
+        card_model::Tally { code, count }
+    },
     state: |card| {
         let card::numbers::State { code, buckets, sectors, td, ti, begin, last, used } =
             card::numbers::state(card);

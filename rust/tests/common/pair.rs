@@ -8,8 +8,8 @@ use super::LIBRARY;
 use card_model::call::{Call, MODEL};
 use card_model::Answer;
 
-/// How often each answer number, from 0 to 14, was given.
-pub type Tally = [u64; 15];
+/// How often each answer number, from 0 to 15, was given.
+pub type Tally = [u64; 16];
 
 pub fn is_question(call: Call) -> bool {
     matches!(call, Call::Look { .. } | Call::Next { .. })

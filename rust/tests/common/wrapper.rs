@@ -1,8 +1,8 @@
 //! The safe functions as a table of calls: what they say in Rust types, turned back into numbers.
 
-use card::{journal, Look, Record, Refusal, Shape, Status};
+use card::{journal, Entry, Look, Record, Refusal, Request, Shape, Status};
 use card_model::call::{Calls, JournalCalls};
-use card_model::{Answer, Digits, State};
+use card_model::{Answer, Digits, State, Tally};
 
 pub const WRAPPER: Calls = Calls {
     format: |card, buckets, sectors, td, ti| {
@@ -41,6 +41,19 @@ pub const WRAPPER: Calls = Calls {
     season: |card, at, target, buckets, sectors, td, ti| {
         done(card::season(card, at, target, Shape::new(buckets, sectors).td(td).ti(ti))).code
     },
+    // what the entries say in Rust types is held to the bytes that the call has laid down
+    history: |card, bib, at, out| {
+        let before = out.to_vec();
+        match card::history(card, bib, at, out).map(|said| said.collect::<Vec<_>>()) {
+            Err(refusal) => Tally { code: refusal.into(), count: 0 },
+            Ok(said) => {
+                let bytes: Vec<u8> = said.iter().flat_map(|&entry| sector(entry)).collect();
+                assert_eq!(bytes, out[..bytes.len()], "{said:?}");
+                assert_eq!(before[bytes.len()..], out[bytes.len()..], "behind the last");
+                Tally { code: 0, count: said.len() }
+            }
+        }
+    },
     state: |card| match card::state(card) {
         Ok(card::State { shape: Shape { buckets, sectors, td, ti }, begin, last, used }) => {
             State { code: 0, buckets, sectors, td, ti, begin, last, used }
@@ -72,6 +85,14 @@ pub const WRAPPER_JOURNAL: JournalCalls = JournalCalls {
         Err(refusal) => refused(refusal),
     },
 };
+
+/// The bytes of an entry.
+fn sector(entry: Entry) -> [u8; 16] {
+    match entry {
+        Entry::Post(Record { bib, at, status, time }) => Request::Post { bib, at, status, time }.sector(),
+        Entry::Strike { bib, at } => Request::Strike { bib, at }.sector(),
+    }
+}
 
 fn status_of(number: u32) -> Option<Status> {
     let all = [Status::Timed, Status::DidNotFinish, Status::Disqualified, Status::DidNotStart];
