@@ -18,8 +18,8 @@
  * numbers could be given, the first in the order listed at the call is. Accepted is code 0. The
  * requests of card_batch are answered and refused likewise, each by itself.
  *
- * Threads. Any number of threads may ask (card_look, card_next, card_records, card_state) at the
- * same time, and card_season asks the card that it copies.
+ * Threads. Any number of threads may ask (card_look, card_next, card_records, card_history,
+ * card_state) at the same time, and card_season asks the card that it copies.
  * card_format, card_post, card_strike and card_batch need the card alone, and card_season its
  * target: no other call on it may run meanwhile, and the caller sees to that. Different cards have
  * nothing to do with each other.
@@ -91,7 +91,8 @@ extern "C" {
 #define CARD_TD_MIN 2
 #define CARD_TI_MIN 4
 
-/* The bytes of a sector, of a record that card_records lays down and of a request of card_batch. */
+/* The bytes of a sector, of a record or entry that card_records and card_history lay down and of a
+ * request of card_batch. */
 #define CARD_SECTOR_BYTES 16
 
 /* The length of a card of `buckets` buckets of `sectors` sectors, for numbers within the limits. */
@@ -121,7 +122,8 @@ enum card_code {
     CARD_NO_REQUEST = 11,    /* a request of a batch is not laid out as a post or a strike */
     CARD_UNPAIRED = 12,      /* a batch's requests are not whole, or not as many as its answers */
     CARD_TOO_EARLY = 13,     /* the stamp asked about is before the card's beginning */
-    CARD_NO_STATUS = 14      /* a status above 3, or a time beside a status other than 0 */
+    CARD_NO_STATUS = 14,     /* a status above 3, or a time beside a status other than 0 */
+    CARD_NO_ROOM = 15        /* the buffer is too short for a history */
 };
 
 /* What a result says beside its time. Each of them stands until it is corrected or struck. The time
@@ -133,7 +135,7 @@ enum card_status {
     CARD_STATUS_DID_NOT_START = 3
 };
 
-/* What a request of card_batch asks for: its byte 0. */
+/* What a request of card_batch asks for, and what an entry of card_history is: its byte 0. */
 enum card_kind {
     CARD_KIND_POST = 1,
     CARD_KIND_STRIKE = 2
@@ -170,6 +172,8 @@ static inline const char *card_text(uint32_t code) {
         return "the stamp asked about is before the card's beginning";
     case CARD_NO_STATUS:
         return "the status is none, or has a time beside it";
+    case CARD_NO_ROOM:
+        return "the buffer is too short";
     default:
         return "no answer of the card";
     }
@@ -185,10 +189,10 @@ struct card_answer {
     uint32_t reads;  /* buckets read, in card_look only; a journal has none */
 };
 
-/* The answer of card_records. */
+/* The answer of card_records and of card_history. */
 struct card_tally {
     uint32_t code; /* an enum card_code */
-    size_t count;  /* records laid down */
+    size_t count;  /* records or entries laid down */
 };
 
 /* The answer of card_state. */
@@ -284,6 +288,22 @@ struct card_answer card_next(const uint8_t *card, size_t len, uint32_t bib, uint
  * written.
  * Leaves the card as it was. */
 struct card_tally card_records(const uint8_t *card, size_t len, uint32_t bib, uint32_t at,
+                               uint8_t *out, size_t room);
+
+/* Everything ever said of `bib` up to stamp `at`: its posts and strikes, each once, by rising stamp,
+ * laid down at `out` as sectors of 16 bytes, in the layout of the requests of card_batch. The answer
+ * has their number. The bytes behind the last stay as they were. `out` is not null, its bytes can be
+ * read and written, and none of them is the card's.
+ * On a card made by card_format these are the posts and strikes of the bib that were accepted; on a
+ * season card the record that it began with, if any, and what was accepted since. A bucket that is
+ * rewritten copies entries; the copies count once. On a card of another's making one stamp may be
+ * there twice for the bib: then the first such entry of the lowest bucket is given.
+ * Refused: 1, head or length breaks the layout; 2, bib 0; 13, `at` before the card's beginning; 4, a
+ * sector of the buckets, on a path or not, that is damaged or a root entry; the log is not asked; 15,
+ * the whole sectors of `out` are too few. Then no byte of `out` is written. `room` of 16 bytes for
+ * each bucket sector of the card is always enough.
+ * Leaves the card as it was. */
+struct card_tally card_history(const uint8_t *card, size_t len, uint32_t bib, uint32_t at,
                                uint8_t *out, size_t room);
 
 /* Begins a fresh card with what stands on another, for when that one is full: a season card.

@@ -291,6 +291,39 @@ static void statuses(void) {
     CHECK(card_look(card, sizeof card, 5, 20).status == CARD_STATUS_DISQUALIFIED);
 }
 
+/* What was said of a bib, strikes included, through rewritings; and the refusals in the header's order. */
+static void histories(void) {
+    uint8_t card[CARD_BYTES(16, 4)] = {0}, out[4 * CARD_SECTOR_BYTES], expected[4 * CARD_SECTOR_BYTES];
+    struct card_tally tally;
+    uint32_t at;
+    CHECK(card_format(card, sizeof card, 16, 4, 0, 0).code == CARD_OK);
+    CHECK(card_post(card, sizeof card, 7, 10, CARD_STATUS_TIMED, 90).code == CARD_OK);
+    CHECK(card_strike(card, sizeof card, 7, 20).code == CARD_OK);
+    CHECK(card_post(card, sizeof card, 7, 30, CARD_STATUS_DISQUALIFIED, 0).code == CARD_OK);
+    for (at = 31; at <= 39; at++)
+        CHECK(card_post(card, sizeof card, 8, at, CARD_STATUS_TIMED, at).code == CARD_OK);
+    request(expected, CARD_KIND_POST, 7, 10, 90);
+    request(expected + 16, CARD_KIND_STRIKE, 7, 20, 0);
+    request(expected + 32, CARD_KIND_POST, 7, 30, 0);
+    expected[33] = CARD_STATUS_DISQUALIFIED;
+    memset(expected + 48, 0x5a, 16);
+    memset(out, 0x5a, sizeof out);
+    tally = card_history(card, sizeof card, 7, CARD_NOW, out, sizeof out);
+    CHECK(tally.code == CARD_OK && tally.count == 3 && memcmp(out, expected, sizeof out) == 0);
+    tally = card_history(card, sizeof card, 7, 29, out, 32);
+    CHECK(tally.code == CARD_OK && tally.count == 2);
+    CHECK(card_history(card, sizeof card, 9, CARD_NOW, out, 0).code == CARD_OK);
+    tally = card_history(card, sizeof card, 7, 30, out, 47);
+    CHECK(tally.code == CARD_NO_ROOM && tally.count == 0 && CARD_NO_ROOM == 15);
+    card[8] = 5; /* a beginning */
+    card[sizeof card - 16] = CARD_KIND_POST; /* a post of bib 0, which no path leads to */
+    CHECK(card_history(card, sizeof card - 1, 0, 4, out, 0).code == CARD_LAYOUT);
+    CHECK(card_history(card, sizeof card, 0, 4, out, 0).code == CARD_NO_BIB);
+    CHECK(card_history(card, sizeof card, 7, 4, out, 0).code == CARD_TOO_EARLY);
+    CHECK(card_history(card, sizeof card, 7, 30, out, 0).code == CARD_DAMAGE);
+    CHECK(memcmp(out, expected, sizeof out) == 0);
+}
+
 static void texts(void) {
     static const char *const said[] = {
         "accepted",
@@ -308,6 +341,7 @@ static void texts(void) {
         "the requests are not whole or not as many as the answers",
         "the stamp asked about is before the card's beginning",
         "the status is none, or has a time beside it",
+        "the buffer is too short",
         "no answer of the card",
     };
     uint32_t code;
@@ -335,6 +369,7 @@ int main(void) {
     journals();
     refused_journals();
     statuses();
+    histories();
     texts();
     version();
     return wrong;
