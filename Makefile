@@ -27,9 +27,9 @@ $(ARCHIVE): $(SOURCES)
 install: $(ARCHIVE)
 	@scripts/install "$(PREFIX)"
 
-# The library against the Rust implementation: single calls, batches, season copies, journals, stack.
+# The library against the Rust implementation: single calls, batches, season copies, journals, histories, stack.
 bench: $(ARCHIVE)
-	@cd rust && for table in speed batch season journal stack; do cargo bench --offline --bench $$table; done
+	@cd rust && for table in speed batch season journal history stack; do cargo bench --offline --bench $$table; done
 
 # The instructions of a look, counted by callgrind: what a change costs, the same on every machine.
 count: $(ARCHIVE)

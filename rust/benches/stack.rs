@@ -76,6 +76,11 @@ fn main() {
     batch_row("batch of a post", &grown.card, &[Call::Post { bib, at, status: 0, time: 1 }]);
     batch_row("batch of 100 posts, some of which rewrite", &grown.card, &posts);
     season_row("season", &grown.card, grown.geometry);
+    let mut out = vec![0; 16 * 1000];
+    let [library, rust] = [LIBRARY, MODEL].map(|side| {
+        stack::on_a_thread(|| assert_eq!((side.history)(&grown.card, bib, u32::MAX, &mut out).code, 0))
+    });
+    println!("| history | {library} | {rust} |");
     println!("| digits | {} | {} |", stack::of_digits(LIBRARY), stack::of_digits(MODEL));
     let entries: Vec<_> = (1..=400).map(|bib| (1, bib, bib, 7)).collect();
     // above every stamp of the slice
