@@ -1,4 +1,4 @@
-// The card for C and Rust: the six calls, the batch, the season card, the scroll's records and the card's state, and the four calls of a journal, exported. Each takes every input, and its contract is the rule.
+// The card for C and Rust: the six calls, the batch, the season card, the scroll's records, a bib's history and the card's state, and the four calls of a journal, exported. Each takes every input, and its contract is the rule.
 use rules::Answer;
 use rules::Digits;
 use rules::State;
@@ -14,6 +14,7 @@ ghost use Rattle.rules.specs.Batch.{batch};
 ghost use Rattle.rules.specs.Format.{format};
 ghost use Rattle.rules.specs.Write.{planAnswer, planCard, post, strike};
 ghost use Rattle.rules.specs.Season.{season};
+ghost use Rattle.rules.specs.History.{history};
 ghost use Rattle.rules.specs.Journal.{journalPost, journalStrike, journalLook, journalNext};
 ghost use Rattle.writer.specs.Rows.{puts};
 ghost use Rattle.scroll.specs.Records.{recordsOf, tallyOf};
@@ -93,6 +94,14 @@ pub extern "C" fn card_records(card: &[u8], bib: u32, at: u32, out: &mut [u8]) -
     ensures { λ _. ⌜ now (out .exit) ≡ puts (now (out .entry)) 0 (recordsOf (now (card .entry)) at (length (now (out .entry)) / 16) bib .records) ⌝ }
 {
     scroll::records(card, bib, at, out)
+}
+
+#[no_mangle]
+pub extern "C" fn card_history(card: &[u8], bib: u32, at: u32, out: &mut [u8]) -> Tally
+    ensures { λ r. ⌜ r ≡ tallyOf (history (now (card .entry)) bib at (length (now (out .entry)) / 16)) ⌝ }
+    ensures { λ _. ⌜ now (out .exit) ≡ puts (now (out .entry)) 0 (history (now (card .entry)) bib at (length (now (out .entry)) / 16) .records) ⌝ }
+{
+    history::history(card, bib, at, out)
 }
 
 #[no_mangle]
