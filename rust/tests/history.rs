@@ -81,10 +81,10 @@ fn in_rust_types() {
     let (card, mut page) = (evening(), [0; 16 * 5]);
     let mut said = card::history(&card, 11, 69, &mut page).unwrap();
     let record = |at, status, time| Entry::Post(Record { bib: 11, at, status, time });
-    assert_eq!((said.len(), said.next_back()), (4, Some(record(60, Status::DidNotFinish, 0))));
+    assert_eq!((said.len(), said.next_back()), (4, Some(record(60, Status::DidNotFinish, None))));
     let rest: Vec<Entry> = said.by_ref().collect();
     let strike = Entry::Strike { bib: 11, at: 40 };
-    assert_eq!(rest, [record(20, Status::Timed, 59990), record(30, Status::Timed, 59980), strike]);
+    assert_eq!(rest, [record(20, Status::Timed, Some(59990)), record(30, Status::Timed, Some(59980)), strike]);
     assert_eq!((said.next(), said.next_back(), strike.at(), rest[0].at()), (None, None, 40, 20));
     assert_eq!(card::history(&card, 11, NOW, &mut page[..79]).map(drop), Err(Refusal::NoRoom));
 }

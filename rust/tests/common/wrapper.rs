@@ -89,7 +89,9 @@ pub const WRAPPER_JOURNAL: JournalCalls = JournalCalls {
 /// The bytes of an entry.
 fn sector(entry: Entry) -> [u8; 16] {
     match entry {
-        Entry::Post(Record { bib, at, status, time }) => Request::Post { bib, at, status, time }.sector(),
+        Entry::Post(Record { bib, at, status, time }) => {
+            Request::Post { bib, at, status, time: time.unwrap_or(0) }.sector()
+        }
         Entry::Strike { bib, at } => Request::Strike { bib, at }.sector(),
     }
 }
