@@ -188,7 +188,7 @@ pub fn records<'a>(card: &[u8], bib: u32, at: u32, out: &'a mut [u8]) -> Result<
 /// let mut page = [0; 16 * 20];
 /// let mut said = card::history(&bytes, 7, 120, &mut page)?;
 /// assert_eq!(said.len(), 3);
-/// assert!(matches!(said.next(), Some(Entry::Post(record)) if record.time == 59_990));
+/// assert!(matches!(said.next(), Some(Entry::Post(record)) if record.time == Some(59_990)));
 /// assert_eq!(said.next().unwrap().at(), 110);
 /// assert_eq!(said.next(), Some(Entry::Strike { bib: 7, at: 120 }));
 /// assert_eq!(card::history(&bytes, 7, 119, &mut page)?.len(), 2);

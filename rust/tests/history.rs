@@ -84,7 +84,10 @@ fn in_rust_types() {
     assert_eq!((said.len(), said.next_back()), (4, Some(record(60, Status::DidNotFinish, None))));
     let rest: Vec<Entry> = said.by_ref().collect();
     let strike = Entry::Strike { bib: 11, at: 40 };
-    assert_eq!(rest, [record(20, Status::Timed, Some(59990)), record(30, Status::Timed, Some(59980)), strike]);
+    assert_eq!(
+        rest,
+        [record(20, Status::Timed, Some(59990)), record(30, Status::Timed, Some(59980)), strike]
+    );
     assert_eq!((said.next(), said.next_back(), strike.at(), rest[0].at()), (None, None, 40, 20));
     assert_eq!(card::history(&card, 11, NOW, &mut page[..79]).map(drop), Err(Refusal::NoRoom));
 }
@@ -246,7 +249,7 @@ fn against(list: &List, card: &[u8], begin: u32, random: &mut Random, tally: &mu
 /// The calls of a day, single and refused ones among them, then its histories; then those of its season card.
 #[test]
 fn on_cards_of_ours() {
-    rounds("histories", 8, &[0, 13, 15], |seed| {
+    rounds("histories", 3, &[0, 13, 15], |seed| {
         let (mut random, mut tally) = (Random::new(seed), pair::Tally::default());
         let mut geometry = Geometry::random(&mut random);
         geometry.buckets = geometry.buckets.min(120);
