@@ -4,7 +4,7 @@ use rules::Entry;
 use rules::Head;
 ghost use mathlib.Core.Path.{_≡_};
 ghost use mathlib.Core.Bool.{true};
-ghost use Prim.Native.Nat.{_*_, _-_, _/_};
+ghost use Prim.Native.Nat.{_-_, _/_};
 ghost use lib.ListN.{length};
 ghost use Rattle.rules.specs.Plain.{zeros};
 ghost use Rattle.rules.specs.Layout.{limits, sizeOf};

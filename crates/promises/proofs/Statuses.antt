@@ -1,7 +1,7 @@
 -- A result is a time or a status, never both.
 use mathlib.Core.Path.{_≡_, refl}
 use mathlib.Core.Logic.{⊎-elim}
-use mathlib.Core.Bool.{Bool, true, false, not}
+use mathlib.Core.Bool.{Bool, true, false}
 use mathlib.Core.Option.{Option, none, some}
 use mathlib.Core.List.{List}
 use Prim.Native.Nat.{ℕ, _≤_, _<_}
@@ -12,11 +12,11 @@ use borrow.Author.Tests.{ne-eqb}
 use Rattle.rules.specs.declared.Answer.{Answer}
 use Rattle.rules.specs.declared.Entry.{Entry}
 use Rattle.rules.specs.declared.Head.{Head}
-use Rattle.rules.specs.Answers.{refused, sheet, ended}
-use Rattle.rules.specs.Calls.{called, planned, postCall}
+use Rattle.rules.specs.Answers.{refused, sheet}
+use Rattle.rules.specs.Calls.{called, planned}
 use Rattle.rules.specs.Layout.{headOf, beginning}
 use Rattle.rules.specs.Look.{look, lookIn, lookOn}
-use Rattle.rules.specs.Next.{next, nextIn}
+use Rattle.rules.specs.Next.{next}
 use Rattle.rules.specs.Plain.{if}
 use Rattle.rules.specs.Sector.{postEntry, statusFits}
 use Rattle.rules.specs.State.{state, stateIn}

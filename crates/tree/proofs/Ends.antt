@@ -1,6 +1,6 @@
 -- Where a walk ends: the data bucket with its range of keys, and the smallest index key above.
 use Prim.Native.Nat.{_<_, _≤_, suc, zero, ℕ}
-use borrow.Author.Tests.{le-leb, lt-leb, le-ltb, lt-ltb, ltb-true}
+use borrow.Author.Tests.{le-leb, le-ltb, lt-ltb, ltb-true}
 use lib.Dec.{leb, ltb}
 use lib.ListN.{length}
 use mathlib.Core.Bool.{false, true}

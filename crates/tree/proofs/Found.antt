@@ -10,7 +10,7 @@ use lib.Dec.{eqb, ltb}
 use borrow.Author.Tests.{eq-eqb, eqb-true, lt-ltb, ltb-true}
 use Rattle.rules.specs.declared.Entry.{Entry}
 use Rattle.rules.specs.Next.{lasts, standingAbove}
-use Rattle.rules.specs.Plain.{_&_, if, isNone, keepIf, lastOf, only, smaller, smallest}
+use Rattle.rules.specs.Plain.{if, isNone, keepIf, lastOf, only, smaller, smallest}
 use Rattle.rules.specs.Sector.{isPost}
 use Rattle.rules.specs.Walk.{copyOf, standing}
 use Rattle.laws.proofs.Tools.{and-true, none-some, true-and, le-or-lt, eq-or-ne}

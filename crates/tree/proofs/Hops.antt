@@ -8,7 +8,6 @@ use native.Mathlib.Omega.{arith}
 use mathlib.Core.List.{List}
 use Rattle.rules.specs.declared.Entry.{Entry}
 use Rattle.rules.specs.declared.Answer.{Answer}
-use Rattle.rules.specs.Answers.{ended, answer}
 use Rattle.rules.specs.Next.{hop, hopOr, hopTo, hopping, indexOn, nextFrom, standingAbove, keyAbove}
 use Rattle.rules.specs.Plain.{smallest}
 use Rattle.rules.specs.Walk.{Visit, dataOf, left}

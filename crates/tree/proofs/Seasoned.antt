@@ -18,13 +18,13 @@ use Rattle.rules.specs.Plain.{_&_, zeros, andThen, every, lastOf}
 use Rattle.rules.specs.Records.{Roll}
 use Rattle.rules.specs.Rewrite.{Rise, pair}
 use Rattle.rules.specs.Season.{storey, towerOn, built, rootedOn, seasonOn, seasonTo, seasonFor, season, standingAt}
-use Rattle.rules.specs.Sector.{put, encode, isData, isIndex, isPost, isRoot, legal, statusFits, rootEntry, sectorAt, word}
+use Rattle.rules.specs.Sector.{put, encode, isData, isIndex, isPost, isRoot, legal, rootEntry, sectorAt, word}
 use Rattle.rules.specs.Walk.{copyOf, standing}
 use Rattle.rules.specs.Write.{accept, refuseIf, stampOn}
 use Rattle.laws.proofs.Buckets.{raw}
 use Rattle.laws.proofs.Bytes.{bytes-encode, bytes-put, zero-bytes}
 use Rattle.laws.proofs.Tells.{Rec}
-use Rattle.laws.proofs.Codec.{Fits, length-encode}
+use Rattle.laws.proofs.Codec.{length-encode}
 use Rattle.laws.proofs.Copies.{copy-cons, cstep}
 use Rattle.laws.proofs.Entries.{Fine, dummy-fine, root-fine, root-says}
 use Rattle.laws.proofs.Halves.{Sorted}
@@ -35,7 +35,7 @@ use Rattle.laws.proofs.Puts.{Chain, chain-more, chain-size}
 use Rattle.laws.proofs.Run.{decode-put, run-agree}
 use Rattle.laws.proofs.Sectors.{length-put, sector-put-other, sector-put-same}
 use Rattle.laws.proofs.Stamps.{bucket-stamps, stamp-blank}
-use Rattle.laws.proofs.Tools.{and-true, le-or-lt, true-and}
+use Rattle.laws.proofs.Tools.{and-true, le-or-lt}
 use Rattle.laws.proofs.Used.{run-blank}
 use Rattle.laws.proofs.Writes.{chain-top}
 use Rattle.laws.proofs.Zeros.{zero-sector}

@@ -1,35 +1,30 @@
 -- The records that nexts give one after the other: posts by rising bib on any card of bytes, and on a card of ours what stands.
 use mathlib.Core.Path.{_≡_, refl, ap, sym, _∙_, subst}
-use mathlib.Core.Logic.{_⊎_, inl, inr, ⊎-elim}
+use mathlib.Core.Logic.{inl, inr, ⊎-elim}
 use mathlib.Core.Bool.{Bool, true, false}
 use mathlib.Core.Option.{Option, none, some}
 use Prim.Native.Nat.{ℕ, zero, suc, _+_, _≤_, _<_}
 use native.Mathlib.Omega.{arith}
 use mathlib.Core.List.{List, [], _∷_}
-use lib.Dec.{leb, ltb, eqb}
-use borrow.Author.Tests.{leb-true, ltb-true, eqb-true, eq-eqb, ne-eqb}
+use lib.Dec.{eqb}
+use borrow.Author.Tests.{eqb-true, eq-eqb, ne-eqb}
 use Rattle.rules.specs.declared.Answer.{Answer}
 use Rattle.rules.specs.declared.Entry.{Entry}
 use Rattle.rules.specs.declared.Head.{Head}
-use Rattle.rules.specs.Answers.{ended, refused}
-use Rattle.rules.specs.Layout.{base, beginning, headOf}
-use Rattle.rules.specs.Next.{hop, hopOr, hopTo, hopping, keyAbove, lasts, next, nextFrom, nextIn, standingAbove}
-use Rattle.rules.specs.Plain.{_&_, if, isNone, keepIf, lastOf, only}
+use Rattle.rules.specs.Answers.{ended}
+use Rattle.rules.specs.Next.{next}
+use Rattle.rules.specs.Plain.{if, lastOf, only}
 use Rattle.rules.specs.Records.{Roll, roll, recordOf, rollOn, rolled}
 use Rattle.rules.specs.Season.{standingAt}
-use Rattle.rules.specs.Sector.{isPost, legal, statusFits}
-use Rattle.rules.specs.Walk.{Visit, copyOf, dataOf, left, standing, standsOn, walk}
-use Rattle.laws.proofs.Buckets.{bucket-raw}
-use Rattle.laws.proofs.Bytes.{Bytes, run-good}
+use Rattle.rules.specs.Sector.{isPost}
+use Rattle.rules.specs.Walk.{copyOf, dataOf, left, standing, standsOn}
+use Rattle.laws.proofs.Bytes.{Bytes}
 use Rattle.laws.proofs.Copies.{copy-cons}
-use Rattle.laws.proofs.Entries.{Fine}
 use Rattle.laws.proofs.Halves.{copy-low}
-use Rattle.laws.proofs.Lists.{All, all-both, all-map, only-all, only-true}
-use Rattle.laws.proofs.Paths.{Along, along-map, walk-reads}
-use Rattle.laws.proofs.Tools.{and-true, eq-or-ne, le-or-lt, none-some}
-use Rattle.rules.specs.Bucket.{bucket}
+use Rattle.laws.proofs.Lists.{All, all-map}
+use Rattle.laws.proofs.Tools.{eq-or-ne, le-or-lt, none-some}
 use Rattle.tree.proofs.Ends.{ends-here}
-use Rattle.laws.proofs.Tells.{given, Rec, Tells, next-tells}
+use Rattle.laws.proofs.Tells.{given, Tells, next-tells}
 use Rattle.tree.proofs.Found.{Found, found-ext, found-one}
 use Rattle.tree.proofs.Keeps.{Keeps, keeps-next}
 use Rattle.tree.proofs.Seasoned.{Records, said}
