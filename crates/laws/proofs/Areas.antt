@@ -30,7 +30,7 @@ join-inv Blank r xs q = inl (refl, q)
 join-inv (Held e) none xs q = absurd (none-some q)
 join-inv (Held e) (some ys) xs q =
     let go : (b : Bool) → if b none (some (e ∷ ys)) ≡ some xs → e ∷ ys ≡ xs
-    = λ b. elim b [ true ↦ λ z. absurd (none-some z) | false ↦ λ z. cc ] in
+    = λ b. elim b as (λ b. if b none (some (e ∷ ys)) ≡ some xs → e ∷ ys ≡ xs) [ true ↦ λ z. absurd (none-some z) | false ↦ λ z. cc ] in
     inr (e, ys, refl, refl, go (is_root e) q)
 join-inv Damaged r xs q = absurd (none-some q)
 

@@ -35,7 +35,7 @@ blanks-each P card i zero f = tt
 blanks-each P card i (suc c) f =
     let rest = blanks-each P card (suc i) c (λ j p q z. f j (omega arith) (omega arith) z) in
     let go : (b : Bool) → zeros (sector_at card i) ≡ b → Each P (also b i (blanks card (suc i) c))
-    = λ b. elim b [ true ↦ λ z. (f i (omega arith) (omega arith) z, rest) | false ↦ λ z. rest ] in
+    = λ b. elim b as (λ b. zeros (sector_at card i) ≡ b → Each P (also b i (blanks card (suc i) c))) [ true ↦ λ z. (f i (omega arith) (omega arith) z, rest) | false ↦ λ z. rest ] in
     go (zeros (sector_at card i)) refl
 
 pub blanks-none : (card : List ℕ) (i : ℕ) → blanks card i zero ≡ []
@@ -92,14 +92,16 @@ fill-run n card i (suc c) es (e ∷ new) good lies fits q =
     (blanks-each (Lies card1) card1 (suc i) c (λ j p r y. omega arith)) (blanks-each (λ k. i ≡ k → ⊥) card1 (suc i) c (λ j p r y u. omega arith)) in
     let hd : decode n (sector_at (fill card1 (blanks card1 (suc i) c) new) i) ≡ Held e
     = ap (decode n) (oth ∙ sector-put-same card i (encode e) (length-encode e) (omega arith)) ∙ decode-encode n e good.0.1 in
-    rw (z, sym be, b.1) (ap₂ onto hd ih))
+    let filled : fill card (blanks card i (suc c)) (e ∷ new) ≡ fill card1 (blanks card1 (suc i) c) new = rw (z, sym be) in
+    rw b.1 (ap (λ (k : List ℕ). run n k i (suc c)) filled ∙ ap₂ onto hd ih))
     (λ (b : (x : Entry) × (xs : List Entry) × (decode n (sector_at card i) ≡ Held x) × (es ≡ x ∷ xs) × (run n card (suc i) c ≡ some xs)).
     let z = blanks-no card i c (held-zeros n (sector_at card i) b.0 b.2) in
     let ft : suc (length new) ≤ length (blanks card (suc i) c) = rw z at fits in
     let ih = fill-run n card (suc i) c b.1 (e ∷ new) good (omega arith) ft b.4 in
     let oth = fill-other card (blanks card (suc i) c) (e ∷ new) i
     (blanks-each (Lies card) card (suc i) c (λ j p r y. omega arith)) (blanks-each (λ k. i ≡ k → ⊥) card (suc i) c (λ j p r y u. omega arith)) in
-    rw (z, b.3) (ap₂ onto (ap (decode n) oth ∙ b.2) ih))
+    let filled = ap (λ (is : List ℕ). fill card is (e ∷ new)) z in
+    rw b.3 (ap (λ (k : List ℕ). run n k i (suc c)) filled ∙ ap₂ onto (ap (decode n) oth ∙ b.2) ih))
     (onto-inv (decode n (sector_at card i)) (run n card (suc i) c) es q)
 
 -- a run without entries is blank

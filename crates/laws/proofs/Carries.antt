@@ -219,7 +219,7 @@ module _ (h : Head) (lim : Lim h) (s : ℕ) (s32 : s < 4294967296) where
       let ld = length-drop j ks in
       let go : (b : Bool) → ltb (length ks) td ≡ b → (if b (one_bucket h s ks r) (two_buckets h s (take j ks) (drop j ks) r)).fresh ≤ h.n + 1
       → Next (if b (one_bucket h s ks r) (two_buckets h s (take j ks) (drop j ks) r))
-      = λ b. elim b [
+      = λ b. elim b as (λ b. ltb (length ks) td ≡ b → (if b (one_bucket h s ks r) (two_buckets h s (take j ks) (drop j ks) r)).fresh ≤ h.n + 1 → Next (if b (one_bucket h s ks r) (two_buckets h s (take j ks) (drop j ks) r))) [
         | true ↦ λ q. (let less = ltb-true (length ks) td q in one-next ks r bt good mk (omega arith))
         | false ↦ λ q. (let ge = ltb-false (length ks) td q in two-next (take j ks) (drop j ks) r bt (all_left (Fine h.n) (take j ks) (drop j ks) ab) (all_right (Fine h.n) (take j ks) (drop j ks) ab)
             (subst (Marked s) (sym (take-append-drop j ks)) mk) (omega arith) (omega arith) (omega arith) (omega arith))
@@ -268,7 +268,7 @@ module _ (h : Head) (lim : Lim h) (s : ℕ) (s32 : s < 4294967296) where
       )) in
       let go : (b : Bool) → leb (length r.hand) (length (blanks_of h r.card v.number)) ≡ b → (if b room (renew h s (limit_of h v.entries) ks r)).fresh ≤ h.n + 1
       → Next (if b room (renew h s (limit_of h v.entries) ks r))
-      = λ b. elim b [
+      = λ b. elim b as (λ b. leb (length r.hand) (length (blanks_of h r.card v.number)) ≡ b → (if b room (renew h s (limit_of h v.entries) ks r)).fresh ≤ h.n + 1 → Next (if b room (renew h s (limit_of h v.entries) ks r))) [
         | true ↦ λ q cap. in-room (leb-true (length r.hand) (length (blanks_of h r.card v.number)) q)
         | false ↦ λ q. renew-next (limit_of h v.entries) ks r lm.0 lm.1 bt (kept-all (Fine h.n) (key_of v.entries) s (v.entries ++ r.hand) (all_append (Fine h.n) v.entries r.hand good own))
             (kept-marked (key_of v.entries) s v.entries r.hand stamps some-hand few) (omega arith)

@@ -151,7 +151,7 @@ standing-only q x (e ∷ es) s a =
     let r : copy_of x (e ∷ es) ≡ some e = copy-cons x e es ∙ rw (eq-eqb e.key x k, n1) in
     let r3 : copy_of x (e ∷ only q es) ≡ some e = copy-cons x e (only q es) ∙ rw (eq-eqb e.key x k, n2) in
     let go : (b : Bool) → q e ≡ b → standing (copy_of x (keep_if b e (only q es))) ≡ standing (some e)
-    = λ b. elim b [
+    = λ b. elim b as (λ b. q e ≡ b → standing (copy_of x (keep_if b e (only q es))) ≡ standing (some e)) [
       | true ↦ λ t. ap standing r3
       | false ↦ λ t. ap standing n2 ∙ sym (rw (a.0 t))
     ] in
@@ -160,7 +160,7 @@ standing-only q x (e ∷ es) s a =
     let r : copy_of x (e ∷ es) ≡ copy_of x es = copy-cons x e es ∙ rw (ne_eqb e.key x n) in
     let r2 : copy_of x (e ∷ only q es) ≡ copy_of x (only q es) = copy-cons x e (only q es) ∙ rw (ne_eqb e.key x n) in
     let go : (b : Bool) → standing (copy_of x (keep_if b e (only q es))) ≡ standing (copy_of x es)
-    = λ b. elim b [
+    = λ b. elim b as (λ b. standing (copy_of x (keep_if b e (only q es))) ≡ standing (copy_of x es)) [
       | true ↦ ap standing r2 ∙ standing-only q x es s.1 a.1
       | false ↦ standing-only q x es s.1 a.1
     ] in

@@ -139,7 +139,7 @@ unfolding only
 only-true q [] = tt
 only-true q (e ∷ es) =
     let go : (b : Bool) → q e ≡ b → All (λ d. q d ≡ true) (keep_if b e (only q es))
-    = λ b. elim b [ true ↦ λ t. (t, only-true q es) | false ↦ λ t. only-true q es ] in
+    = λ b. elim b as (λ b. q e ≡ b → All (λ d. q d ≡ true) (keep_if b e (only q es))) [ true ↦ λ t. (t, only-true q es) | false ↦ λ t. only-true q es ] in
     go (q e) refl
 
 -- what holds of all entries but of those that fail the test too, holds of all
@@ -148,7 +148,7 @@ unfolding only
 only-back P q [] a = tt
 only-back P q (e ∷ es) a =
     let go : (b : Bool) → q e ≡ b → All P (keep_if b e (only q es)) → (q e ≡ true → P e) × All (λ d. q d ≡ true → P d) es
-    = λ b. elim b [
+    = λ b. elim b as (λ b. q e ≡ b → All P (keep_if b e (only q es)) → (q e ≡ true → P e) × All (λ d. q d ≡ true → P d) es) [
       | true ↦ λ t k. ((λ u. k.0), only-back P q es k.1)
       | false ↦ λ t k. ((λ u. absurd (true-false (sym u ∙ t))), only-back P q es k)
     ] in
@@ -159,7 +159,7 @@ unfolding larger
 larger-inv P e none d pe pr q = let ed : e ≡ d = cc in subst P ed pe
 larger-inv P e (some c) d pe pr q =
     let go : (b : Bool) → if b (some c) (some e) ≡ some d → P d
-    = λ b. elim b [
+    = λ b. elim b as (λ b. if b (some c) (some e) ≡ some d → P d) [
       | true ↦ λ t. (let cd : c ≡ d = cc in subst P cd (pr c refl))
       | false ↦ λ t. (let ed : e ≡ d = cc in subst P ed pe)
     ] in
@@ -175,7 +175,7 @@ unfolding larger
 larger-some e none q = none-some (sym q)
 larger-some e (some c) q =
     let go : (b : Bool) → if b (some c) (some e) ≡ none → ⊥
-    = λ b. elim b [ true ↦ λ t. none-some (sym t) | false ↦ λ t. none-some (sym t) ] in
+    = λ b. elim b as (λ b. if b (some c) (some e) ≡ none → ⊥) [ true ↦ λ t. none-some (sym t) | false ↦ λ t. none-some (sym t) ] in
     go (leb e.key c.key) q
 
 largest-none : (P : Entry → Type 0) (es : List Entry) → largest es ≡ none → All P es
@@ -204,7 +204,7 @@ largest-ge [] d q = tt
 largest-ge (e ∷ es) d q =
     let g = larger-ge e (largest es) d q in
     let go : (r : Option Entry) → largest es ≡ r → All (λ c. c.key ≤ d.key) es
-    = λ r. elim r [
+    = λ r. elim r as (λ r. largest es ≡ r → All (λ c. c.key ≤ d.key) es) [
       | none ↦ λ t. largest-none (λ c. c.key ≤ d.key) es t
       | some c ↦ λ t. (let cd = g.1 c t in all_map (λ z. z.key ≤ c.key) (λ z. z.key ≤ d.key) (λ z k. omega arith) es (largest-ge es c t))
     ] in

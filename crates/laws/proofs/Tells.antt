@@ -48,7 +48,7 @@ unfolding smallest smaller
 smallest-all P [] d a q = absurd (none-some q)
 smallest-all P (e ∷ es) d a q =
     let go : (r : Option Entry) → smallest es ≡ r → smaller e r ≡ some d → P d
-    = λ r. elim r [
+    = λ r. elim r as (λ r. smallest es ≡ r → smaller e r ≡ some d → P d) [
       | none ↦ λ z w. (let ed : e ≡ d = cc in subst P ed a.0)
       | some c ↦ λ z w. ⊎_elim
           (λ (k : (smaller e (some c) ≡ some c) × (c.key ≤ e.key)). smallest-all P es d a.1 (z ∙ sym k.0 ∙ w))
@@ -150,15 +150,15 @@ module _ (n k t : ℕ) (wk : ℕ → Option (List Visit)) (fine : (x : ℕ) (p :
   any_next zero x = inl (refl, refl)
   any_next (suc f) x =
       let further : (r : Option Entry) → Tells k t (hopping (hop_to r) (next_from wk k t f))
-      = λ r. elim r [ none ↦ inl (refl, refl) | some e ↦ any_next f e.key ] in
+      = λ r. elim r as (λ r. Tells k t (hopping (hop_to r) (next_from wk k t f))) [ none ↦ inl (refl, refl) | some e ↦ any_next f e.key ] in
       let here : (p : List Visit) → wk x ≡ some p → (r : Option Entry) → standing_above k (left t (data_of p)) ≡ r
       → Tells k t (hopping (hop_or r (hop_to (key_above t x p))) (next_from wk k t f))
-      = λ p q r. elim r [
+      = λ p q r. elim r as (λ r. standing_above k (left t (data_of p)) ≡ r → Tells k t (hopping (hop_or r (hop_to (key_above t x p))) (next_from wk k t f))) [
         | none ↦ λ z. further (key_above t x p)
         | some e ↦ λ z. (let d = found (data_of p) e (fine x p q) z in inr (e, refl, d.0, d.1))
       ] in
       let walked : (r : Option (List Visit)) → wk x ≡ r → Tells k t (hopping (hop k t x r) (next_from wk k t f))
-      = λ r. elim r [ none ↦ λ z. inl (refl, refl) | some p ↦ λ z. here p z (standing_above k (left t (data_of p))) refl ] in
+      = λ r. elim r as (λ r. wk x ≡ r → Tells k t (hopping (hop k t x r) (next_from wk k t f))) [ none ↦ λ z. inl (refl, refl) | some p ↦ λ z. here p z (standing_above k (left t (data_of p))) refl ] in
       walked (wk x) refl
 
 -- on any card

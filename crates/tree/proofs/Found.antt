@@ -31,7 +31,7 @@ lasts-is (d ∷ es) =
     let tail = all_map (λ e. copy_of e.key es ≡ some e) (λ e. copy_of e.key (d ∷ es) ≡ some e)
     (λ e q. copy-cons e.key d es ∙ ap (cstep (eqb d.key e.key) d) q ∙ keep (eqb d.key e.key) e) (lasts es) (lasts-is es) in
     let go : (r : Option Entry) → copy_of d.key es ≡ r → All (λ e. copy_of e.key (d ∷ es) ≡ some e) (keep_if (is_none r) d (lasts es))
-    = λ r. elim r [
+    = λ r. elim r as (λ r. copy_of d.key es ≡ r → All (λ e. copy_of e.key (d ∷ es) ≡ some e) (keep_if (is_none r) d (lasts es))) [
       | none ↦ λ q. (copy-cons d.key d es ∙ rw (eq-eqb d.key d.key refl, q), tail)
       | some c ↦ λ q. tail
     ] in
@@ -48,7 +48,7 @@ lasts-all P y (d ∷ es) e a q =
     let q1 : cstep (eqb d.key y) d (copy_of y es) ≡ some e = sym (copy-cons y d es) ∙ q in
     let rest : All P (lasts es) = tail_of (is_none (copy_of d.key es)) a in
     let go : (r : Option Entry) → copy_of y es ≡ r → cstep (eqb d.key y) d r ≡ some e → P e
-    = λ r. elim r [
+    = λ r. elim r as (λ r. copy_of y es ≡ r → cstep (eqb d.key y) d r ≡ some e → P e) [
       | none ↦ λ z w. last-case z (eqb d.key y) refl w
       | some c ↦ λ z w. lasts-all P y es e rest (z ∙ same (eqb d.key y) c w)
     ] in
@@ -88,7 +88,7 @@ unfolding smallest smaller
 smallest-le [] d q = tt
 smallest-le (e ∷ es) d q =
     let go : (r : Option Entry) → smallest es ≡ r → smaller e r ≡ some d → All (λ z. d.key ≤ z.key) (e ∷ es)
-    = λ r. elim r [
+    = λ r. elim r as (λ r. smallest es ≡ r → smaller e r ≡ some d → All (λ z. d.key ≤ z.key) (e ∷ es)) [
       | none ↦ λ z w. (le-key (some-eq w), smallest-none (λ y. d.key ≤ y.key) es z)
       | some c ↦ λ z w. ⊎_elim
           (λ (k : (smaller e (some c) ≡ some c) × (c.key ≤ e.key)).

@@ -1,0 +1,13 @@
+pub mod Runs
+pub mod Picks
+pub mod Ways
+pub mod Looks
+pub mod Mins
+pub mod Nexts
+pub mod Parts
+pub mod Blanks
+pub mod Words
+pub mod Back
+pub mod Loops
+pub mod Least
+pub mod Judged

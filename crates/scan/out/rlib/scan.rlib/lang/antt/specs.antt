@@ -1,0 +1,5 @@
+pub mod Scan
+pub mod Back
+pub mod Look
+pub mod Next
+pub mod Words
