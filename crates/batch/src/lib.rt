@@ -16,7 +16,7 @@ use walk::Layout;
 use write::{Entered, Task};
 
 // What the next request starts from: the card's largest stamp, its highest bucket used, and its root.
-#[derive(Drop)]
+#[derive(Clone, Copy)]
 pub struct Known {
     pub stamp: u32,
     pub used: usize,
@@ -24,7 +24,7 @@ pub struct Known {
 }
 
 // A request's answer, and what is known after it.
-#[derive(Drop)]
+#[derive(Clone, Copy)]
 pub struct Carried {
     pub code: u32,
     pub known: Known,

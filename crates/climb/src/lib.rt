@@ -18,14 +18,14 @@ use level::Sent;
 use rules::{Entry, Head};
 
 // What a rewritten level hands on: the pairs of its new buckets, and the next fresh one.
-#[derive(Drop)]
+#[derive(Clone, Copy)]
 pub struct Renewed {
     pub sent: Sent,
     pub fresh: usize,
 }
 
 // What a write will need: the next fresh bucket when it is done, and whether there is a new root.
-#[derive(Drop)]
+#[derive(Clone, Copy)]
 pub struct Needs {
     pub fresh: usize,
     pub root: bool,

@@ -17,7 +17,7 @@ use scroll::Tally;
 use walk::Layout;
 
 // Whether the entries have room in the sectors lent, and how many they are.
-#[derive(Drop)]
+#[derive(Clone, Copy)]
 pub enum Fit {
     Damage,
     Short,

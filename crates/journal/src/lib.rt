@@ -14,14 +14,14 @@ use rules::{Answer, Entry, Sector};
 use scan::Found;
 
 // What one pass over a journal gives: its written sectors, the last stamp, and the last copy of the bib asked for.
-#[derive(Drop)]
+#[derive(Clone, Copy)]
 pub struct Pass {
     pub used: usize,
     pub last: u32,
     pub copy: Found,
 }
 
-#[derive(Drop)]
+#[derive(Clone, Copy)]
 pub enum Reading {
     Broken,
     Sound(Pass),

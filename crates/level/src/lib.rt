@@ -10,7 +10,7 @@ use hand::Hand;
 use rules::{Entry, Head};
 
 // What goes up from a level: the call's entry at first, then the pairs of the new buckets.
-#[derive(Drop)]
+#[derive(Clone, Copy)]
 pub struct Sent {
     pub low: Entry,
     pub high: Entry,

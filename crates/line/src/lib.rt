@@ -7,7 +7,7 @@ ghost use Rattle.line.specs.Fields.{digit_in, number_in, run_on, field_in, rest_
 ghost use Rattle.line.specs.Requests.{request_of, pair_of, four_of, other_call};
 
 // What a line asks for; `Other` where it is not of the grammar.
-#[derive(Drop)]
+#[derive(Clone, Copy)]
 pub enum Request {
     Format(u32, u32, u32, u32),
     Post(u32, u32, u32, u32),
@@ -18,26 +18,26 @@ pub enum Request {
 }
 
 // Where a name that stands in a line ends.
-#[derive(Drop)]
+#[derive(Clone, Copy)]
 pub enum Place {
     At(usize),
     Missing,
 }
 
 // A number and where it ends.
-#[derive(Drop)]
+#[derive(Clone, Copy)]
 pub enum Taken {
     Number(u32, usize),
     Nothing,
 }
 
-#[derive(Drop)]
+#[derive(Clone, Copy)]
 pub enum Pair {
     Both(u32, u32),
     Neither,
 }
 
-#[derive(Drop)]
+#[derive(Clone, Copy)]
 pub enum Four {
     All(u32, u32, u32, u32),
     Not,

@@ -1,7 +1,7 @@
 // The values that the rules speak of, and that the card's functions hand on.
 
 // A written sector's five fields.
-#[derive(Drop)]
+#[derive(Clone, Copy)]
 pub struct Entry {
     pub kind: u32,
     pub status: u32,
@@ -11,7 +11,7 @@ pub struct Entry {
 }
 
 // What sixteen bytes of a card are.
-#[derive(Drop)]
+#[derive(Clone, Copy)]
 pub enum Sector {
     Blank,
     Held(Entry),
@@ -19,7 +19,7 @@ pub enum Sector {
 }
 
 // The card's geometry: sectors in a bucket, the two limits of a rewrite, buckets.
-#[derive(Drop)]
+#[derive(Clone, Copy)]
 pub struct Head {
     pub m: usize,
     pub td: usize,
@@ -29,7 +29,7 @@ pub struct Head {
 
 // What a call answers.
 #[repr(C)]
-#[derive(Drop)]
+#[derive(Clone, Copy)]
 pub struct Answer {
     pub code: u32,
     pub bib: u32,
@@ -41,7 +41,7 @@ pub struct Answer {
 
 // What the panel shows.
 #[repr(C)]
-#[derive(Drop)]
+#[derive(Clone, Copy)]
 pub struct Digits {
     pub code: u32,
     pub places: [u8; 6],
@@ -49,7 +49,7 @@ pub struct Digits {
 
 // What a card says of itself: its geometry, its beginning, the largest stamp of its buckets and the highest bucket used.
 #[repr(C)]
-#[derive(Drop)]
+#[derive(Clone, Copy)]
 pub struct State {
     pub code: u32,
     pub buckets: u32,

@@ -12,7 +12,7 @@ use rules::Answer;
 use walk::Layout;
 
 // "it holds the card it reads and the bib last given"
-#[derive(Drop)]
+#[derive(Clone, Copy)]
 pub struct Scroll<'a> {
     pub card: &'a [u8],
     pub at: u32,
@@ -47,7 +47,7 @@ pub fn step<'s, 'a>(s: &'s mut Scroll<'a>) -> Answer
 
 // How many records were laid down, beside 0; or no record, beside the number of a refusal.
 #[repr(C)]
-#[derive(Drop)]
+#[derive(Clone, Copy)]
 pub struct Tally {
     pub code: u32,
     pub count: usize,

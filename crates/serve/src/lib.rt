@@ -7,7 +7,7 @@ ghost use Rattle.serve.specs.Feeds.{Ready, keep, fed_to, byte_on, fed, heard, la
 use libc::{STDIN_FILENO, STDOUT_FILENO};
 
 // Between two bytes of the input: the card's length, the bytes of a line that are in the room, and the bytes of an answer that are to be written.
-#[derive(Drop)]
+#[derive(Clone, Copy)]
 pub struct State {
     pub len: usize,
     pub used: usize,
@@ -62,7 +62,7 @@ fn byte(room: &mut [u8], card: &mut [u8], out: &mut [u8], s: State, b: u8) -> St
 }
 
 // After some of the input: where it stands, and whether every answer so far could be written.
-#[derive(Drop)]
+#[derive(Clone, Copy)]
 pub struct Progress {
     pub state: State,
     pub written: bool,

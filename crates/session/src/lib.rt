@@ -10,7 +10,7 @@ use line::Request;
 use rules::Answer;
 
 // The card's length after a line, and the answer to it.
-#[derive(Drop)]
+#[derive(Clone, Copy)]
 pub struct Acted {
     pub len: usize,
     pub answer: Answer,

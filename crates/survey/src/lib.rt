@@ -8,14 +8,14 @@ ghost use Rattle.survey.specs.Survey.{survey_of};
 use rules::Head;
 
 // What the whole card holds: its largest stamp, and the highest bucket with a nonzero byte.
-#[derive(Drop)]
+#[derive(Clone, Copy)]
 pub struct Area {
     pub stamp: u32,
     pub used: usize,
 }
 
 // The same for a write, which asks of the stamps only whether its own comes too late.
-#[derive(Drop)]
+#[derive(Clone, Copy)]
 pub struct AreaFor {
     pub late: bool,
     pub used: usize,

@@ -8,7 +8,7 @@ use rules::Head;
 use scan::{Found, Way};
 
 // Where the walk's buckets begin in the lent path, and what the data bucket says of the key; or that the path has too few places.
-#[derive(Drop)]
+#[derive(Clone, Copy)]
 pub struct Trail {
     pub start: usize,
     pub found: Found,

@@ -12,7 +12,7 @@ use rules::{Answer, Head};
 use scan::{Found, Trip, Way};
 
 // What the head and the length of a card say.
-#[derive(Drop)]
+#[derive(Clone, Copy)]
 pub enum Layout {
     Broken,
     Sound(Head),

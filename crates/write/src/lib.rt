@@ -44,7 +44,7 @@ fn too_full(card: &[u8], head: Head, needs: Needs) -> bool
 
 // An entry to be laid down, and what is known of the card: the highest bucket with a nonzero byte, the root, and whether the
 // walk is known to be a deep one.
-#[derive(Drop)]
+#[derive(Clone, Copy)]
 pub struct Task {
     pub entry: Entry,
     pub used: usize,
@@ -53,7 +53,7 @@ pub struct Task {
 }
 
 // What a write answers, and what the next one starts from: the highest bucket used afterwards, and the root.
-#[derive(Drop)]
+#[derive(Clone, Copy)]
 pub struct Entered {
     pub code: u32,
     pub used: usize,
@@ -108,7 +108,7 @@ fn objection(kind: u32, found: Found) -> u32
 
 // What is known of a write before its first byte: that the walk has more buckets than the lent path has places; or the number of
 // what refuses it; or, where that is 0, where its path starts and what it will need.
-#[derive(Drop)]
+#[derive(Clone, Copy)]
 pub struct Verdict {
     pub deep: bool,
     pub code: u32,
@@ -189,7 +189,7 @@ fn lay(card: &mut [u8], head: Head, task: Task, path: &[u32], v: Verdict) -> Ent
 }
 
 // What came of a lent path: what the write gives, or that the walk has more buckets than the path has places.
-#[derive(Drop)]
+#[derive(Clone, Copy)]
 pub struct Outcome {
     pub deep: bool,
     pub entered: Entered,

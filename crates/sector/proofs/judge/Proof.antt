@@ -7,7 +7,7 @@ use Rattle.sector.proofs.judge.Tie as tie
 
 returns : tie.Need-returns
 unfolding judged
-returns c = search (rules, sym c.before.keeps-row.ensures ∙ c.if1.true)
+returns c = search (rules, sym c.before.keeps_row.ensures ∙ c.if1.true)
 
 returns-2 : tie.Need-returns-2
 unfolding judged
