@@ -1,0 +1,22 @@
+-- What is left before sector i, passed through from its last sector down, gives what the scan of the whole bucket gives.
+use Prim.Native.Nat.{◌≤◌, ◌-◌}
+use mathlib.Core.Path.{◌≡◌, refl, ap, ◌∙◌}
+use mathlib.Core.Bool.{Bool, false}
+use mathlib.Core.List.{◌∷◌}
+use native.Mathlib.Omega.{arith}
+use Rattle.rules.specs.Plain.{if}
+use Rattle.scan.specs.declared.Found.TheVariants.{Nothing, Damage, Hit}
+use Rattle.scan.specs.Scan.{sectors, scan_in, pick}
+use Rattle.scan.specs.Back.{last_first, sound, first_in}
+use Rattle.scan.proofs.Back.{from_last, back_end, back-turn, no-entry-first, first-met}
+use Rattle.bucket.specs.Places.{data_fits, is_copy}
+use Rattle.bucket.proofs.Places.{pick-copy}
+use borrow.Author.Rules.{rules}
+use borrow.Enum.Refused.{opened}
+use Rattle.bucket.proofs.scan_data.Given as goal
+
+abbrev pub invariant-loop-i : goal.invariant-loop-i
+invariant-loop-i l = (l.i ≤ l.count) × (first_in (data_fits l.header) (is_copy l.x l.t) (last_first l.n l.part l.i) ≡ scan_in (data_fits l.header) (pick false l.x l.t) (sectors l.n l.part 0 l.count) Nothing)
+
+abbrev pub decreases-loop-i : goal.decreases-loop-i
+decreases-loop-i l = l.i
