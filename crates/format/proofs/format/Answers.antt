@@ -12,4 +12,4 @@ returns c =
     let a = c.args in
     let m = c.meant-head.ensures in
     let l = c.format_for.ensures in
-    record { value = l.0 ∙ ap (λ (h : Head). plan_answer (format_for a.card.now h)) m; card_after = l.1 ∙ ap (λ (h : Head). plan_card a.card.now (format_for a.card.now h)) m }
+    record { value = l.value ∙ ap (λ (h : Head). plan_answer (format_for a.card.now h)) m; card_after = l.card_after ∙ ap (λ (h : Head). plan_card a.card.now (format_for a.card.now h)) m }

@@ -28,10 +28,8 @@ returns-then-reads-places c =
     deep-goes _ _ c.args.head.n _ c.loop-reads.invariant.4 _ _ (omega (arith, c.loop-reads.invariant.0, c.if-reads-n.false, c.if-reads-places.true))
 
 -- the lent path, with the bucket written down
-abbrev met : tie.After-search invariant-loop decreases-loop → List ℕ
-met q =
-    let turn = q.before.before.before in
-    set turn.loop.path (length turn.before.before.before.args.path.now - (turn.loop.reads + 1)) turn.loop.b
+abbrev met : After-search-way → List ℕ
+met q = set q.loop-reads.path (length q.args.path.now - (q.loop-reads.reads + 1)) q.loop-reads.b
 
 as_lent : (q : After-search-way) → length (met q) ≡ length q.args.path.now
 as_lent q = simp length-set q.loop-reads.invariant.4
