@@ -11,13 +11,10 @@ use Rattle.walk.proofs.Walks.{broken-none, sound-some}
 use Rattle.rules.specs.Season.{season, season_to, standing_at}
 use Rattle.season.proofs.Orders.{heeds-no, no-head, too-early, in-time}
 use Rattle.season.proofs.season.Goals as goal
-use Rattle.season.proofs.season.Goals.{In-Sound, Start}
-
-abbrev start : In-Sound → tie.Start
-start q = ⟪q⟫
+use Rattle.season.proofs.season.Goals.{In-Sound}
 
 -- the source has a head
-head_at : (q : In-Sound) → (h : Head) × (head_of (start q).args.card.now ≡ some h)
+head_at : (q : In-Sound) → (h : Head) × (head_of q.args.card.now ≡ some h)
 head_at q = (q.in-Sound.field-0, sound-some _ _ (sym q.read_head-layout.ensures ∙ q.in-Sound.is))
 
 pub returns-in_default : goal.returns-in_default
@@ -32,7 +29,7 @@ beginning-requires c = let h = head_at (goal.at.beginning-requires c).In-Sound i
 
 pub returns-then-at-beginning : goal.returns-then-at-beginning
 returns-then-at-beginning c =
-    let a = (start (goal.at.returns-then-at-beginning c).In-Sound).args in
+    let a = c.args in
     let h = head_at (goal.at.returns-then-at-beginning c).In-Sound in
     let e = c.beginning.ensures in
     let p = too-early a.card.now a.at a.target.now a.buckets a.sectors a.td a.ti h.0 h.1 (omega (arith, c.if-at-beginning.true)) in
@@ -41,13 +38,13 @@ returns-then-at-beginning c =
 
 pub returns : goal.returns
 returns c =
-    let a = (start (goal.at.returns c).In-Sound).args in
+    let a = c.args in
     let h = head_at (goal.at.returns c).In-Sound in
     let e = c.beginning.ensures in
     let m = c.meant-head.ensures in
     let t = c.season_to.ensures in
     let p = in-time a.card.now a.at a.target.now a.buckets a.sectors a.td a.ti h.0 h.1 (omega (arith, c.if-at-beginning.false)) in
-    rw p (
-      t.value ∙ ap (λ (g : Head). (plan_answer (season_to g a.at a.target.now (standing_at a.card.now a.at))).code) m,
-      t.target_after ∙ ap (λ (g : Head). plan_card a.target.now (season_to g a.at a.target.now (standing_at a.card.now a.at))) m,
-    )
+    rw p (record {
+      value = t.value ∙ ap (λ (g : Head). (plan_answer (season_to g a.at a.target.now (standing_at a.card.now a.at))).code) m;
+      target_after = t.target_after ∙ ap (λ (g : Head). plan_card a.target.now (season_to g a.at a.target.now (standing_at a.card.now a.at))) m;
+    })

@@ -22,7 +22,7 @@ use Rattle.write.proofs.judge.Goals.{After-count-needs, After-walk_down-arg-1, A
 -- the walk down is the rule's walk
 went : (q : After-walk_down-t) →
     let a = q.args in
-    Went q.walk_down-t.result (length a.path.now) a.head.n q.walk_down-t.new.head.1.1.1.0 (track_in a.task.entry.key [] (walk a.head a.card.now latest a.task.entry.key))
+    Went q.walk_down-t.result (length a.path.now) a.head.n q.walk_down-t.new.path (track_in a.task.entry.key [] (walk a.head a.card.now latest a.task.entry.key))
 went q =
     let a = q.args in
     subst (Went _ _ _ _) (ap (track_from a.head a.card.now a.task.entry.key) q.requires.0.root ∙ track-walk a.head a.card.now a.task.entry.key) q.walk_down-t.ensures
