@@ -4,7 +4,6 @@ use native.Mathlib.Omega.{arith}
 use Rattle.bucket.proofs.Room.{shape_of}
 use Rattle.write.proofs.Codes.{flawed, stale, goes_in, fine-now, did-same, began, began-not}
 use Rattle.write.proofs.enter_on.Goals as goal
-use Rattle.write.proofs.enter_on.Goals.{After-slice_known-1, After-survey_for-area, Else-flaw-ne0}
 
 pub returns-then-flaw-ne0 : goal.returns-then-flaw-ne0
 returns-then-flaw-ne0 c =
@@ -15,36 +14,27 @@ returns-then-flaw-ne0 c =
 pub survey_for-area-requires : goal.survey_for-area-requires
 survey_for-area-requires c = shape_of c.args.card.now c.args.head c.requires.0
 
--- where the card was surveyed
-abbrev flaw-at : After-survey_for-area → tie.After-flaw-of
-flaw-at q = ⟪q⟫
-
-abbrev start : After-survey_for-area → tie.Start
-start q = (flaw-at q).before.before
-
 pub returns-then-area : goal.returns-then-area
 returns-then-area c =
-    let a = (start (goal.at.returns-then-area c).After-survey_for-area).args in
+    let a = c.args in
     began-not a.head a.card.now _ 3 _ (λ z. omega arith) c.early-then-area.ensures
-    (stale a.card.now a.e a.head (start (goal.at.returns-then-area c).After-survey_for-area).requires.0 _ (flaw-at (goal.at.returns-then-area c).After-survey_for-area).flaw-of.ensures c.if-flaw-ne0.false _ c.survey_for-area.ensures.0 c.if-area.true)
+    (stale a.card.now a.e a.head c.requires.0 _ c.flaw_of-flaw.ensures c.if-flaw-ne0.false _ c.survey_for-area.ensures.0 c.if-area.true)
 
 pub root_of-requires : goal.root_of-requires
-root_of-requires c = let o = start (goal.at.root_of-requires c).Else-flaw-ne0 in shape_of o.args.card.now o.args.head o.pre.0
+root_of-requires c = shape_of c.args.card.now c.args.head c.requires.0
 
 pub insert-requires : goal.insert-requires
 insert-requires c =
-    let o = start (goal.at.insert-requires c).Else-flaw-ne0 in
-    let a = o.args in
+    let a = c.args in
     record {
-      head = o.pre.0;
-      fine = fine-now a.card.now a.e a.head o.pre.0 _ (flaw-at (goal.at.insert-requires c).Else-flaw-ne0).flaw-of.ensures c.if-flaw-ne0.false _ c.survey_for-area.ensures.0 o.pre.1 c.if-area.false;
+      head = c.requires.0;
+      fine = fine-now a.card.now a.e a.head c.requires.0 _ c.flaw_of-flaw.ensures c.if-flaw-ne0.false _ c.survey_for-area.ensures.0 c.requires.1 c.if-area.false;
       used = c.survey_for-area.ensures.1;
       root = c.root_of.ensures;
     }
 
 pub returns : goal.returns
 returns c =
-    let o = start (goal.at.returns c).Else-flaw-ne0 in
-    let a = o.args in
-    let is = goes_in a.card.now a.e a.head o.pre.0 _ (flaw-at (goal.at.returns c).Else-flaw-ne0).flaw-of.ensures c.if-flaw-ne0.false _ c.survey_for-area.ensures.0 c.if-area.false in
+    let a = c.args in
+    let is = goes_in a.card.now a.e a.head c.requires.0 _ c.flaw_of-flaw.ensures c.if-flaw-ne0.false _ c.survey_for-area.ensures.0 c.if-area.false in
     began _ a.head a.card.now _ _ (did-same _ a.head a.card.now _ _ _ is c.insert.ensures)

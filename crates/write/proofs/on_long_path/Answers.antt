@@ -13,7 +13,7 @@ lay-requires c =
     let j = c.judge-v.ensures in
     let most = (shape_of c.args.card.now c.args.head c.requires.head).lim.n4096 in
     let no : c.judge-v.result.deep ≡ false = ⊎_elim (λ yes. absurd (omega (arith, j.few yes, most))) (λ z. z) (bool_cases c.judge-v.result.deep) in
-    record { shape = c.requires; count_bound = no; at_value = (4096, j) }
+    (c.requires, no, (4096, j))
 
 pub returns : goal.returns
 returns c = c.lay.ensures

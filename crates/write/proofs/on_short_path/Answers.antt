@@ -10,7 +10,7 @@ returns-then-v c =
 
 pub lay-entered-requires : goal.lay-entered-requires
 lay-entered-requires c =
-    record { shape = c.requires; count_bound = c.if-v.false; at_value = (16, c.judge-v.ensures) }
+    (c.requires, c.if-v.false, (16, c.judge-v.ensures))
 
 pub returns : goal.returns
 returns c =
