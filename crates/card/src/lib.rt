@@ -1,4 +1,6 @@
 // The card for C and Rust: the six calls, the batch, the season card, the scroll's records, a bib's history and the card's state, and the four calls of a journal, in one place. Each takes every input, and its contract is the rule.
+#![tactic(auto)]
+
 ghost use Rattle.std.specs.Prelude.{◌≡◌, ◌/◌, length};
 ghost use Rattle.rules.specs.Look.{look};
 ghost use Rattle.rules.specs.Next.{next};
