@@ -1,8 +1,7 @@
 -- What is left before sector i, passed through from its last sector down, gives what the scan of the whole bucket gives.
-use Prim.Native.Nat.{◌≤◌, ◌-◌}
+use Prim.Native.Nat.{◌-◌}
 use mathlib.Core.Path.{◌≡◌, refl, ap, ◌∙◌}
 use mathlib.Core.Bool.{Bool, false}
-use mathlib.Core.List.{◌∷◌}
 use native.Mathlib.Omega.{arith}
 use Rattle.rules.specs.Plain.{if}
 use Rattle.scan.specs.declared.Found.TheVariants.{Nothing, Damage, Hit}

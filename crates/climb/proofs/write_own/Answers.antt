@@ -1,5 +1,4 @@
 -- `climb::write_own` fills one fresh bucket, or two.
-use borrow.Author.Rules.{rules}
 use mathlib.Core.Path.{subst}
 use mathlib.Core.List.{[]}
 use Prim.Native.Nat.{◌+◌, ◌≤◌}
