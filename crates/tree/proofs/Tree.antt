@@ -10,7 +10,7 @@ use lib.ListN.{length}
 use borrow.Author.Tests.{eq-eqb}
 use Rattle.rules.specs.declared.Entry.{Entry}
 use Rattle.rules.specs.Sector.{is_data, is_index}
-use Rattle.rules.specs.Walk.{Visit, arrived, copy_of, data_of, down_to, follow, go, left, standing, turn}
+use Rattle.rules.specs.Walk.{Visit, arrived, copy_of, data_of, down_to, follow, left, standing, turn}
 use Rattle.laws.proofs.Tools.{true-false}
 use Rattle.laws.proofs.Lists.{All, follow-all, follow-le, upper, upper-gt, upper-le}
 

@@ -1,5 +1,4 @@
 -- `batch::answer_to` answers one request as the rule does.
-use borrow.Author.Rules.{rules}
 use mathlib.Core.Path.{sym, ◌∙◌, ap, subst}
 use native.Mathlib.Omega.{arith}
 use Rattle.rules.specs.Sector.{sector_at}

@@ -1,5 +1,4 @@
 -- `batch::batch` equals the rule for every card and all lent bytes.
-use borrow.Author.Rules.{rules}
 use mathlib.Core.Path.{◌≡◌, sym, ap, ◌∙◌}
 use mathlib.Core.Option.{some}
 use lib.ListN.{length}

@@ -1,5 +1,4 @@
 -- `batch::begin` answers the first request as the rule does.
-use borrow.Author.Rules.{rules}
 use mathlib.Core.Path.{refl, sym, ◌∙◌, ap, subst}
 use native.Mathlib.Omega.{arith}
 use Rattle.rules.specs.Sector.{sector_at}

@@ -1,5 +1,4 @@
 -- `batch::enter` follows the rule's plan for an entry, and what it carries on is read off the card it leaves.
-use borrow.Author.Rules.{rules}
 use borrow.Author.Tests.{le-leb, lt-leb}
 use mathlib.Core.Path.{refl}
 use native.Mathlib.Omega.{arith}

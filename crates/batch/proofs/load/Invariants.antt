@@ -1,17 +1,12 @@
 -- `batch::load` answers the requests one after the other. What is left of them, on the card as it is, gives what the whole gives.
-use borrow.Author.Rules.{rules}
-use mathlib.Core.Path.{◌≡◌, refl, ap, sym, ◌∙◌}
+use mathlib.Core.Path.{◌≡◌}
 use mathlib.Core.Option.{some}
-use mathlib.Core.List.{List, ◌++◌}
-use Prim.Native.Nat.{ℕ, ◌-◌, ◌≤◌, ◌<◌}
-use native.Mathlib.Omega.{arith}
-use lib.ListN.{length, take, length-set}
+use mathlib.Core.List.{◌++◌}
+use Prim.Native.Nat.{◌-◌, ◌≤◌}
+use lib.ListN.{length, take}
 use Rattle.rules.specs.Layout.{head_of}
-use Rattle.rules.specs.Sector.{sector_at}
-use Rattle.rules.specs.Write.{plan_answer}
-use Rattle.rules.specs.Batch.{request, requests_in, card_of, answers_to}
+use Rattle.rules.specs.Batch.{requests_in, card_of, answers_to}
 use Rattle.batch.specs.Carry.{Knows}
-use Rattle.batch.proofs.Carries.{card-turn, answers-turn, answered, all-answered, none_left, request-small}
 use Rattle.batch.proofs.load.Given as goal
 
 abbrev pub invariant-loop-i : goal.invariant-loop-i

@@ -1,5 +1,4 @@
 -- `batch::well_asked` is the test of answer 11.
-use borrow.Author.Rules.{rules}
 use borrow.Author.Tests.{eq-eqb, ne_eqb}
 use native.Mathlib.Omega.{arith}
 use lib.Dec.{eqb}

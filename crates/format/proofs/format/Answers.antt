@@ -1,8 +1,7 @@
 -- `format::format` equals the rule for every card and number.
-use borrow.Author.Rules.{rules}
 use mathlib.Core.Path.{ap, ◌∙◌}
 use Rattle.rules.specs.declared.Head.{Head}
-use Rattle.rules.specs.Format.{meant, format_for, format}
+use Rattle.rules.specs.Format.{format_for, format}
 use Rattle.rules.specs.Write.{plan_answer, plan_card}
 use Rattle.format.proofs.format.Goals as goal
 

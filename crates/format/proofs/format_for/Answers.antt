@@ -1,5 +1,4 @@
 -- `format::format_for` follows the rule's plan for a geometry.
-use borrow.Author.Rules.{rules}
 use mathlib.Core.Path.{ap, sym, ◌∙◌}
 use Rattle.rules.specs.Format.{format_for}
 use Rattle.rules.specs.Write.{accept}

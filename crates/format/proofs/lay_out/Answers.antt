@@ -1,5 +1,4 @@
 -- `format::lay_out` puts the head and three entries into blank sectors, as the rule does.
-use borrow.Author.Rules.{rules}
 use mathlib.Core.Path.{ap, sym, ◌∙◌}
 use mathlib.Core.List.{List}
 use Prim.Native.Nat.{ℕ, ◌+◌}

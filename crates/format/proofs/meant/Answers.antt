@@ -1,5 +1,4 @@
 -- `format::meant` is the geometry that the numbers mean.
-use borrow.Author.Rules.{rules}
 use Rattle.rules.specs.Format.{meant}
 use Rattle.format.proofs.meant.Goals as goal
 

@@ -1,14 +1,11 @@
 -- `history::counted` counts page after page. What is left from the next page on, with those counted before it, fits as the whole does.
 use borrow.Author.Rules.{rules}
-use mathlib.Core.Path.{◌≡◌, refl}
-use Prim.Native.Nat.{◌-◌, ◌≤◌}
+use mathlib.Core.Path.{refl}
 use native.Mathlib.Omega.{arith}
-use lib.ListN.{length}
 use Rattle.rules.specs.History.{area}
 use Rattle.hand.specs.Hand.{held}
-use Rattle.gather.specs.Pages.{said, firsts, page_of}
+use Rattle.gather.specs.Pages.{said}
 use Rattle.gather.proofs.Paging.{page-held, page-none}
-use Rattle.history.specs.Told.{fit_after}
 use Rattle.history.proofs.Tells.{fit_none, count-over, count-last, count-more}
 use Rattle.history.proofs.counted.Goals as goal
 

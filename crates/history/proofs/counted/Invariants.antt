@@ -1,15 +1,10 @@
 -- `history::counted` counts page after page. What is left from the next page on, with those counted before it, fits as the whole does.
-use borrow.Author.Rules.{rules}
-use mathlib.Core.Path.{◌≡◌, refl}
+use mathlib.Core.Path.{◌≡◌}
 use Prim.Native.Nat.{◌-◌, ◌≤◌}
-use native.Mathlib.Omega.{arith}
 use lib.ListN.{length}
-use Rattle.rules.specs.History.{area}
 use Rattle.hand.specs.Hand.{held}
 use Rattle.gather.specs.Pages.{said, firsts, page_of}
-use Rattle.gather.proofs.Paging.{page-held, page-none}
 use Rattle.history.specs.Told.{fit_after}
-use Rattle.history.proofs.Tells.{fit_none, count-over, count-last, count-more}
 use Rattle.history.proofs.counted.Given as goal
 
 abbrev pub invariant-loop-page : goal.invariant-loop-page

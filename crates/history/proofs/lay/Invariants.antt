@@ -1,17 +1,12 @@
 -- `history::lay` lays page after page down. What is left from the next page on, in the buffer as it is, gives what the whole gives in the buffer that came.
-use borrow.Author.Rules.{rules}
-use mathlib.Core.Path.{◌≡◌, refl}
+use mathlib.Core.Path.{◌≡◌}
 use mathlib.Core.Option.{some}
-use Prim.Native.Nat.{◌+◌, ◌-◌, ◌≤◌}
-use native.Mathlib.Omega.{arith}
+use Prim.Native.Nat.{◌-◌, ◌≤◌}
 use lib.ListN.{length}
-use Rattle.rules.specs.History.{area}
 use Rattle.hand.specs.Hand.{held}
 use Rattle.gather.specs.Pages.{said, firsts}
-use Rattle.gather.proofs.Paging.{page-held, page-sound, page-split}
 use Rattle.history.specs.declared.Fit.TheVariants.{Fits}
 use Rattle.history.specs.Told.{fit_after, row_of}
-use Rattle.history.proofs.Tells.{fit-inv, count-more, lay-last, lay-more, lay-end, room-page, said-small}
 use Rattle.history.proofs.lay.Given as goal
 
 abbrev pub invariant-loop-k : goal.invariant-loop-k

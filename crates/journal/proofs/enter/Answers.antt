@@ -1,5 +1,4 @@
 -- `journal::enter` follows the rule's plan for an entry.
-use borrow.Author.Rules.{rules}
 use mathlib.Core.Path.{◌≡◌, sym, ◌∙◌}
 use mathlib.Core.Option.{some}
 use mathlib.Core.List.{List}

@@ -1,13 +1,10 @@
 -- `journal::least`: what is left from sector i on, with the best so far, gives what the whole gives.
 use borrow.Author.Rules.{rules}
-use mathlib.Core.Path.{◌≡◌, refl, ◌∙◌}
-use mathlib.Core.Bool.{true}
-use Prim.Native.Nat.{◌-◌, ◌≤◌, ◌<◌}
+use mathlib.Core.Path.{refl, ◌∙◌}
+use Prim.Native.Nat.{◌<◌}
 use native.Mathlib.Nat.{sub-zero}
 use native.Mathlib.Omega.{arith}
 use Rattle.rules.specs.Sector.{is_data}
-use Rattle.scan.specs.declared.Found.TheVariants.{Nothing}
-use Rattle.scan.specs.Scan.{sectors}
 use Rattle.scan.specs.Next.{above_at, weigh, runs}
 use Rattle.scan.proofs.Loops.{sectors-turn, sectors-end}
 use Rattle.scan.proofs.Judged.{fields-turn}

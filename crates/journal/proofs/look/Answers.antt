@@ -1,5 +1,4 @@
 -- `journal::look`: each way out is a clause of the rule.
-use borrow.Author.Rules.{rules}
 use mathlib.Core.Path.{sym, ◌∙◌}
 use Rattle.journal.proofs.Plans.{broken-none, sound-some, look-broken, look-zero, look-told}
 use Rattle.journal.proofs.look.Goals as goal

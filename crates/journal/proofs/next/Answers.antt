@@ -1,5 +1,4 @@
 -- `journal::next` equals the rule for every slice.
-use borrow.Author.Rules.{rules}
 use mathlib.Core.Path.{◌≡◌, ap, sym, ◌∙◌}
 use mathlib.Core.Option.{some}
 use mathlib.Core.List.{List}

@@ -1,6 +1,6 @@
 -- `journal::pass_over`: what is left from sector i on, with the stamp and the place kept, gives what the whole pass gives.
 use borrow.Author.Rules.{rules}
-use Prim.Native.Nat.{◌-◌, ◌+◌, ◌≤◌}
+use Prim.Native.Nat.{◌-◌, ◌+◌}
 use mathlib.Core.Path.{◌≡◌, ap, sym, ◌∙◌}
 use mathlib.Core.Bool.{false}
 use mathlib.Core.List.{◌∷◌}

@@ -1,5 +1,4 @@
 -- `journal::post` equals the rule for every slice and number.
-use borrow.Author.Rules.{rules}
 use native.Mathlib.Omega.{arith}
 use Rattle.laws.proofs.Entries.{post-asks}
 use Rattle.rules.specs.Journal.{journal_post}

@@ -1,5 +1,4 @@
 -- `journal::strike` equals the rule for every slice and number.
-use borrow.Author.Rules.{rules}
 use native.Mathlib.Omega.{arith}
 use Rattle.laws.proofs.Entries.{strike-asks}
 use Rattle.rules.specs.Journal.{journal_strike}

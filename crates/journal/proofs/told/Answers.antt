@@ -1,5 +1,4 @@
 -- `journal::told` meets its contract.
-use borrow.Author.Rules.{rules}
 use Rattle.rules.specs.Journal.{next_of}
 use Rattle.journal.specs.Passes.{next_told}
 use Rattle.journal.proofs.told.Goals as goal

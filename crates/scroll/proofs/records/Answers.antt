@@ -2,7 +2,6 @@
 use mathlib.Core.Path.{◌≡◌, refl, sym, ◌∙◌}
 use mathlib.Core.Option.{some}
 use native.Mathlib.Omega.{arith}
-use borrow.Author.Rules.{rules}
 use Rattle.rules.specs.declared.Head.{Head}
 use Rattle.rules.specs.Layout.{head_of}
 use Rattle.laws.proofs.Heads.{head-fits}

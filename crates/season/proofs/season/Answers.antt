@@ -1,5 +1,4 @@
 -- `season::season` equals the rule for every card, target and number.
-use borrow.Author.Rules.{rules}
 use mathlib.Core.Path.{◌≡◌, ap, sym, ◌∙◌}
 use mathlib.Core.Option.{some}
 use native.Mathlib.Omega.{arith}
@@ -8,7 +7,7 @@ use Rattle.rules.specs.Layout.{head_of}
 use Rattle.rules.specs.Write.{plan_answer, plan_card}
 use Rattle.laws.proofs.Heads.{head-fits}
 use Rattle.walk.proofs.Walks.{broken-none, sound-some}
-use Rattle.rules.specs.Season.{season, season_to, standing_at}
+use Rattle.rules.specs.Season.{season_to, standing_at}
 use Rattle.season.proofs.Orders.{heeds-no, no-head, too-early, in-time}
 use Rattle.season.proofs.season.Goals as goal
 use Rattle.season.proofs.season.Goals.{In-Sound}

@@ -1,5 +1,4 @@
 -- `season::season_to` follows the rule's plan for a geometry.
-use borrow.Author.Rules.{rules}
 use mathlib.Core.Path.{◌≡◌, ap, sym, ◌∙◌}
 use mathlib.Core.Bool.{true}
 use Prim.Native.Nat.{ℕ, ◌+◌, ◌≤◌}
@@ -8,7 +7,7 @@ use Rattle.rules.specs.declared.Head.{Head}
 use native.Mathlib.Omega.{arith}
 use lib.Dec.{eqb}
 use lib.ListN.{length}
-use Rattle.rules.specs.Plain.{◌&◌, zeros}
+use Rattle.rules.specs.Plain.{◌&◌}
 use Rattle.rules.specs.Layout.{limits, size_of}
 use Rattle.rules.specs.Write.{accept}
 use Rattle.laws.proofs.Heads.{Lim, limits-hold}

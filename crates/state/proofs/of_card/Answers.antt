@@ -1,7 +1,6 @@
 -- `state::of_card` meets its contract: 1 where the head is broken, else the head's numbers, its beginning and the survey's.
 use mathlib.Core.Path.{sym, ◌∙◌}
 use native.Mathlib.Omega.{arith}
-use borrow.Author.Rules.{rules}
 use Rattle.laws.proofs.Heads.{head-fits}
 use Rattle.laws.proofs.Used.{used-within}
 use Rattle.bucket.proofs.Room.{shape_of}

@@ -1,5 +1,4 @@
 -- `survey::behind`: the first buckets end on the card.
-use borrow.Author.Rules.{rules}
 use mathlib.Core.Path.{refl}
 use native.Mathlib.Omega.{arith}
 use Rattle.survey.proofs.Stamps.{area-room}

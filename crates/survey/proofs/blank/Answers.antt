@@ -1,5 +1,4 @@
 -- `survey::blank` meets its contract: a nonzero byte in front decides.
-use borrow.Author.Rules.{rules}
 use Rattle.survey.proofs.Stamps.{first-written}
 use Rattle.survey.proofs.blank.Goals as goal
 

@@ -1,8 +1,6 @@
 -- `survey::bound` is no less than the largest stamp: the larger of it and of what is left never was.
 use borrow.Author.Rules.{rules}
-use Prim.Native.Nat.{◌-◌, ◌≤◌, max}
 use native.Mathlib.Omega.{arith}
-use Rattle.rules.specs.Write.{top_stamp}
 use Rattle.survey.proofs.Stamps.{field-turn, field_end}
 use Rattle.survey.proofs.bound.Goals as goal
 

@@ -1,5 +1,4 @@
 -- `survey::end`: behind the written buckets all is zero.
-use borrow.Author.Rules.{rules}
 use native.Mathlib.Omega.{arith}
 use Rattle.survey.proofs.end.Goals as goal
 

@@ -1,6 +1,4 @@
 -- `survey::guess` gives some number of buckets: nothing more is asked of it.
-use borrow.Author.Rules.{rules}
-use Prim.Native.Nat.{◌-◌, ◌≤◌}
 use native.Mathlib.Omega.{arith}
 use Rattle.survey.proofs.guess.Goals as goal
 

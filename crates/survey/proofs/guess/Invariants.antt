@@ -1,7 +1,5 @@
 -- `survey::guess` gives some number of buckets: nothing more is asked of it.
-use borrow.Author.Rules.{rules}
 use Prim.Native.Nat.{◌-◌, ◌≤◌}
-use native.Mathlib.Omega.{arith}
 use Rattle.survey.proofs.guess.Given as goal
 
 abbrev pub invariant-loop-low : goal.invariant-loop-low

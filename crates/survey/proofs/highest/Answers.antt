@@ -1,7 +1,6 @@
 -- `survey::highest` goes from behind: what the buckets passed by leave is what all have.
 use borrow.Author.Rules.{rules}
 use mathlib.Core.Path.{◌≡◌, ap, sym, ◌∙◌}
-use Prim.Native.Nat.{◌≤◌}
 use native.Mathlib.Omega.{arith}
 use Rattle.rules.specs.Plain.{zeros}
 use Rattle.rules.specs.Write.{top_used}

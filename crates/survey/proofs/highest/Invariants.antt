@@ -1,11 +1,7 @@
 -- `survey::highest` goes from behind: what the buckets passed by leave is what all have.
-use borrow.Author.Rules.{rules}
-use mathlib.Core.Path.{◌≡◌, ap, sym, ◌∙◌}
+use mathlib.Core.Path.{◌≡◌}
 use Prim.Native.Nat.{◌≤◌}
-use native.Mathlib.Omega.{arith}
-use Rattle.rules.specs.Plain.{zeros}
 use Rattle.rules.specs.Write.{top_used}
-use Rattle.survey.proofs.Stamps.{highest-blank, highest-here}
 use Rattle.survey.proofs.highest.Given as goal
 
 abbrev pub invariant-loop-b : goal.invariant-loop-b

@@ -1,5 +1,4 @@
 -- `survey::largest`: a stamp as large as the bound is the largest; where none is, all were asked.
-use borrow.Author.Rules.{rules}
 use mathlib.Core.Path.{◌∙◌}
 use Rattle.survey.proofs.Stamps.{span, enough-is}
 use Rattle.survey.proofs.largest.Goals as goal

@@ -1,12 +1,8 @@
 -- `survey::passed`: where no field seen is above `before`, the stamps that are left decide.
-use borrow.Author.Rules.{rules}
-use borrow.Author.Tests.{ltb-false}
-use mathlib.Core.Path.{◌≡◌, sym, ◌∙◌}
+use mathlib.Core.Path.{◌≡◌}
 use mathlib.Core.Bool.{false}
 use Prim.Native.Nat.{◌-◌, ◌≤◌, max}
-use native.Mathlib.Omega.{arith}
 use Rattle.rules.specs.Write.{top_stamp}
-use Rattle.survey.proofs.Stamps.{field-turn, field_end, or-false}
 use Rattle.survey.proofs.passed.Given as goal
 
 abbrev pub invariant-loop-i : goal.invariant-loop-i

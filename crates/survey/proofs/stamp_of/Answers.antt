@@ -1,5 +1,4 @@
 -- `survey::stamp_of` reads a sector's stamp field.
-use borrow.Author.Rules.{rules}
 use borrow.Author.Tests.{eq-eqb, ne_eqb}
 use native.Mathlib.Omega.{arith}
 use lib.ListN.{get_or}

@@ -1,5 +1,4 @@
 -- `survey::survey`: what the buckets before the blank end have is what all have.
-use borrow.Author.Rules.{rules}
 use mathlib.Core.Path.{ap, sym, ◌∙◌}
 use Rattle.rules.specs.Write.{stamp_on}
 use Rattle.survey.specs.declared.Area.{Area}

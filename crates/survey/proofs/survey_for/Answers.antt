@@ -1,5 +1,4 @@
 -- `survey::survey_for`: what the buckets before the blank end have is what all have.
-use borrow.Author.Rules.{rules}
 use mathlib.Core.Path.{ap, sym, ◌∙◌}
 use lib.Dec.{leb}
 use Rattle.rules.specs.Write.{stamp_on}

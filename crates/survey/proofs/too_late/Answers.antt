@@ -1,5 +1,4 @@
 -- `survey::too_late`: where no field is late no stamp is; else the stamps themselves are asked.
-use borrow.Author.Rules.{rules}
 use borrow.Author.Tests.{le-leb, lt-leb}
 use mathlib.Core.Path.{ap, sym, ◌∙◌}
 use Prim.Native.Nat.{◌+◌, ◌*◌}

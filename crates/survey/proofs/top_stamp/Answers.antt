@@ -1,7 +1,7 @@
 -- `survey::top_stamp` goes from behind: what it has is the largest stamp of the sectors passed by.
 use borrow.Author.Rules.{rules}
 use mathlib.Core.Path.{◌≡◌}
-use Prim.Native.Nat.{◌+◌, ◌-◌, ◌≤◌}
+use Prim.Native.Nat.{◌+◌, ◌-◌}
 use native.Mathlib.Omega.{arith}
 use Rattle.rules.specs.Write.{top_stamp}
 use Rattle.survey.proofs.Stamps.{from_start, from-turn, from_less}

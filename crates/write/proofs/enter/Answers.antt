@@ -1,5 +1,4 @@
 -- `write::enter` follows the rule's plan for an entry.
-use borrow.Author.Rules.{rules}
 use mathlib.Core.Path.{◌≡◌, sym, ◌∙◌}
 use mathlib.Core.Option.{some}
 use Rattle.rules.specs.Layout.{head_of}

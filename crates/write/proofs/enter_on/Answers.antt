@@ -1,5 +1,4 @@
 -- `write::enter_on` follows the rule's plan for an entry on a card with a head.
-use borrow.Author.Rules.{rules}
 use native.Mathlib.Omega.{arith}
 use Rattle.bucket.proofs.Room.{shape_of}
 use Rattle.write.proofs.Codes.{flawed, stale, goes_in, fine-now, did-same, began, began-not}

@@ -1,5 +1,4 @@
 -- `write::judge` knows what refuses a write, or that nothing does, where the path has places enough.
-use borrow.Author.Rules.{rules}
 use mathlib.Core.Path.{◌≡◌, refl, ap, sym, subst, ◌∙◌}
 use mathlib.Core.List.{List, [], ◌∷◌}
 use Rattle.rules.specs.declared.Entry.{Entry}

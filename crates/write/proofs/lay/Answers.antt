@@ -1,5 +1,4 @@
 -- `write::lay` follows the rule's plan along the path that was judged, and tells the numbers of the card it leaves.
-use borrow.Author.Rules.{rules}
 use mathlib.Core.Path.{◌≡◌, ap, subst, ◌∙◌}
 use mathlib.Core.Bool.{false}
 use Prim.Native.Nat.{◌+◌, ◌≤◌}

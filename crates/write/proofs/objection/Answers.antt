@@ -1,5 +1,4 @@
 -- `write::objection` gives the number of what the walk's end objects to.
-use borrow.Author.Rules.{rules}
 use native.Mathlib.Omega.{arith}
 use borrow.Author.Tests.{eq-eqb, ne_eqb}
 use Rattle.write.specs.Plans.{code_of}

@@ -1,5 +1,4 @@
 -- `write::on_long_path`: a path of 4,096 places has enough.
-use borrow.Author.Rules.{rules}
 use mathlib.Core.Path.{◌≡◌}
 use mathlib.Core.Logic.{⊎_elim}
 use mathlib.Core.Bool.{false}

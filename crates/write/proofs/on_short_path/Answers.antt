@@ -1,5 +1,4 @@
 -- `write::on_short_path` judges and lays on a path of sixteen places.
-use borrow.Author.Rules.{rules}
 use Rattle.write.proofs.Codes.{tried, tried-short}
 use Rattle.write.proofs.on_short_path.Goals as goal
 

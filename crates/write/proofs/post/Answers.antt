@@ -1,5 +1,4 @@
 -- `write::post` equals the rule for every card and number.
-use borrow.Author.Rules.{rules}
 use native.Mathlib.Omega.{arith}
 use Rattle.laws.proofs.Entries.{post-asks}
 use Rattle.rules.specs.Write.{post}

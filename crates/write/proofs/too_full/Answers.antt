@@ -1,7 +1,6 @@
 -- `write::too_full` is the test of answer 6.
 use Prim.Native.Nat.{◌+◌}
 use native.Mathlib.Omega.{arith}
-use borrow.Author.Rules.{rules}
 use borrow.Author.Tests.{lt-ltb, le-ltb}
 use Rattle.write.proofs.too_full.Goals as goal
 

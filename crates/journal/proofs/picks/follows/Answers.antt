@@ -1,5 +1,4 @@
 -- `journal::picks::follows` meets its contract.
-use borrow.Author.Rules.{rules}
 use Rattle.journal.specs.Passes.{follows}
 use Rattle.journal.proofs.picks.follows.Goals as goal
 

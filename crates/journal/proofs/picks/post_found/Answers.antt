@@ -1,5 +1,4 @@
 -- `journal::picks::post_found`: a copy that stands is a post.
-use borrow.Author.Rules.{rules}
 use Rattle.rules.specs.Sector.{is_post}
 use Rattle.journal.specs.Passes.{post_found}
 use Rattle.journal.proofs.picks.post_found.Goals as goal

@@ -1,5 +1,4 @@
 -- `journal::picks::strikes_nothing` meets its contract.
-use borrow.Author.Rules.{rules}
 use borrow.Author.Tests.{eq-eqb, ne_eqb}
 use Rattle.journal.proofs.picks.strikes_nothing.Goals as goal
 

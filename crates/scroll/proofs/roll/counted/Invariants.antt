@@ -1,10 +1,9 @@
 -- `roll::counted` counts the records of a roll. Those counted and the roll that is left give what the whole roll gives.
-use borrow.Author.Rules.{rules}
 use mathlib.Core.Path.{◌≡◌}
 use Prim.Native.Nat.{◌-◌, ◌≤◌}
 use Rattle.rules.specs.Records.{rolled}
 use Rattle.scroll.specs.Records.{tally_of}
-use Rattle.scroll.proofs.Rolls.{tally_after, count-start, count-stop, count-more, count-end}
+use Rattle.scroll.proofs.Rolls.{tally_after}
 use Rattle.scroll.proofs.roll.counted.Given as goal
 
 abbrev pub invariant-loop-i : goal.invariant-loop-i

@@ -1,14 +1,9 @@
 -- `storeys::lay_records` lays the records down. Those left, on the card as it is, give what all give on the card that came.
-use borrow.Author.Rules.{rules}
-use mathlib.Core.Path.{◌≡◌, refl}
+use mathlib.Core.Path.{◌≡◌}
 use Prim.Native.Nat.{◌+◌, ◌-◌, ◌≤◌}
-use native.Mathlib.Omega.{arith}
 use lib.ListN.{length}
-use Rattle.laws.proofs.Bytes.{get-bytes}
-use Rattle.scroll.proofs.Rolls.{record-narrow}
 use Rattle.rules.specs.Records.{rolled}
-use Rattle.season.specs.Storeys.{laid, spot}
-use Rattle.season.proofs.Turns.{records-stop, records-more, records-end}
+use Rattle.season.specs.Storeys.{laid}
 use Rattle.season.proofs.storeys.lay_records.Given as goal
 
 abbrev pub invariant-loop-j : goal.invariant-loop-j

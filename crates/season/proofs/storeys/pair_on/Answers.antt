@@ -1,5 +1,4 @@
 -- `storeys::pair_on` reads a bucket's pair from its header.
-use borrow.Author.Rules.{rules}
 use native.Mathlib.Omega.{arith}
 use Rattle.laws.proofs.Heads.{bucket-fits}
 use Rattle.season.specs.Storeys.{pair_on}

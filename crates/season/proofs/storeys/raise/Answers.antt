@@ -1,10 +1,8 @@
 -- `storeys::raise` lays an index level down. The pairs left, on the card as it is, give what all give on the card that came.
 use borrow.Author.Rules.{rules}
 use mathlib.Core.Path.{◌≡◌, refl, sym, ◌∙◌}
-use Prim.Native.Nat.{◌-◌, ◌≤◌}
+use Prim.Native.Nat.{◌-◌}
 use native.Mathlib.Omega.{arith}
-use lib.ListN.{length}
-use Rattle.season.specs.Storeys.{raised}
 use Rattle.season.proofs.Turns.{pair-kind, raised-more, raised-end}
 use Rattle.season.proofs.storeys.raise.Goals as goal
 

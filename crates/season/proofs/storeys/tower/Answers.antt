@@ -3,13 +3,12 @@ use borrow.Author.Rules.{rules}
 use mathlib.Core.Path.{◌≡◌, refl, sym, ◌∙◌}
 use Prim.Native.Nat.{◌+◌, ◌≤◌}
 use native.Mathlib.Omega.{arith}
-use lib.ListN.{length}
 use Rattle.rules.specs.Layout.{base}
 use Rattle.bucket.specs.Shapes.{Shape}
-use Rattle.season.specs.Storeys.{over, raised, tiers}
+use Rattle.season.specs.Storeys.{over, raised}
 use Rattle.season.proofs.Counts.{over-less, over-some}
 use Rattle.season.proofs.Rooms.{level-room}
-use Rattle.season.proofs.Turns.{Rest, rest-fits, rest_end, rest_more}
+use Rattle.season.proofs.Turns.{rest-fits, rest_end, rest_more}
 use Rattle.season.proofs.storeys.tower.Goals as goal
 use Rattle.season.proofs.storeys.tower.Goals.{After-raise, At-loop-head}
 

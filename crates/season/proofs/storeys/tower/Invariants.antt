@@ -1,15 +1,9 @@
 -- `storeys::tower` builds the index levels. Those left, on the card as it is, give what all give on the card that came.
-use borrow.Author.Rules.{rules}
-use mathlib.Core.Path.{◌≡◌, refl, sym, ◌∙◌}
-use Prim.Native.Nat.{◌+◌, ◌≤◌}
-use native.Mathlib.Omega.{arith}
+use mathlib.Core.Path.{◌≡◌}
+use Prim.Native.Nat.{◌≤◌}
 use lib.ListN.{length}
-use Rattle.rules.specs.Layout.{base}
-use Rattle.bucket.specs.Shapes.{Shape}
-use Rattle.season.specs.Storeys.{over, raised, tiers}
-use Rattle.season.proofs.Counts.{over-less, over-some}
-use Rattle.season.proofs.Rooms.{level-room}
-use Rattle.season.proofs.Turns.{Rest, rest-fits, rest_end, rest_more}
+use Rattle.season.specs.Storeys.{tiers}
+use Rattle.season.proofs.Turns.{Rest}
 use Rattle.season.proofs.storeys.tower.Given as goal
 
 abbrev pub invariant-loop-head : goal.invariant-loop-head
