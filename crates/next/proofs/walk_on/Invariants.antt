@@ -1,0 +1,16 @@
+-- With f walks left from x on the answer is that of all walks; x rises, so f is never spent.
+use Prim.Native.Nat.{ℕ, ◌≤◌, ◌<◌, ◌+◌, ◌-◌}
+use mathlib.Core.Path.{◌≡◌, refl, ◌∙◌}
+use native.Mathlib.Omega.{arith}
+use Rattle.scan.specs.Next.{leg, after, rounds}
+use Rattle.scan.proofs.Parts.{root-found}
+use Rattle.next.proofs.Rounds.{leg-root, no_more, round-turn, round-rises}
+use borrow.Author.Rules.{rules}
+use borrow.Enum.Refused.{opened}
+use Rattle.next.proofs.walk_on.Given as goal
+
+abbrev pub invariant-loop-e : goal.invariant-loop-e
+invariant-loop-e l = (f : ℕ) × (4294967296 ≤ l.x + f) × (l.x ≤ 4294967295) × (rounds l.head l.card l.k l.t f l.x ≡ rounds l.head l.card l.k l.t 4294967296 l.k)
+
+abbrev pub decreases-loop-e : goal.decreases-loop-e
+decreases-loop-e l = 4294967296 - l.x

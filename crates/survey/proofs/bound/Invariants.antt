@@ -1,0 +1,13 @@
+-- `survey::bound` is no less than the largest stamp: the larger of it and of what is left never was.
+use borrow.Author.Rules.{rules}
+use Prim.Native.Nat.{◌-◌, ◌≤◌, max}
+use native.Mathlib.Omega.{arith}
+use Rattle.rules.specs.Write.{top_stamp}
+use Rattle.survey.proofs.Stamps.{field-turn, field_end}
+use Rattle.survey.proofs.bound.Given as goal
+
+abbrev pub invariant-loop-i : goal.invariant-loop-i
+invariant-loop-i l = (l.i ≤ l.to) × (top_stamp l.card l.from (l.to - l.from) ≤ max l.top (top_stamp l.card l.i (l.to - l.i)))
+
+abbrev pub decreases-loop-i : goal.decreases-loop-i
+decreases-loop-i l = l.to - l.i

@@ -1,0 +1,15 @@
+-- `survey::survey_for`: what the buckets before the blank end have is what all have.
+use borrow.Author.Rules.{rules}
+use mathlib.Core.Path.{ap, sym, ◌∙◌}
+use lib.Dec.{leb}
+use Rattle.rules.specs.Write.{stamp_on}
+use Rattle.survey.specs.declared.Area.{Area}
+use Rattle.survey.specs.Survey.{survey_of}
+use Rattle.survey.proofs.survey_for.Goals as goal
+
+pub returns : goal.returns
+unfolding survey_of stamp_on
+returns c =
+    let all = sym c.written-last.ensures.upper_bound.1 in
+    let at = c.args.at in
+    (c.too_late-late.ensures ∙ ap (λ (s : Area). leb at s.stamp) all, c.highest-used.ensures ∙ ap (λ (s : Area). s.used) all)

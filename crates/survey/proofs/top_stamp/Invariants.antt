@@ -1,0 +1,14 @@
+-- `survey::top_stamp` goes from behind: what it has is the largest stamp of the sectors passed by.
+use borrow.Author.Rules.{rules}
+use mathlib.Core.Path.{◌≡◌}
+use Prim.Native.Nat.{◌+◌, ◌-◌, ◌≤◌}
+use native.Mathlib.Omega.{arith}
+use Rattle.rules.specs.Write.{top_stamp}
+use Rattle.survey.proofs.Stamps.{from_start, from-turn, from_less}
+use Rattle.survey.proofs.top_stamp.Given as goal
+
+abbrev pub invariant-loop-i : goal.invariant-loop-i
+invariant-loop-i l = (l.from ≤ l.i) × (l.i ≤ l.to) × (l.top ≡ top_stamp l.card l.i (l.to - l.i))
+
+abbrev pub decreases-loop-i : goal.decreases-loop-i
+decreases-loop-i l = l.i
