@@ -12,6 +12,7 @@ use Rattle.level.specs.Level.{sent_list, AllSmall}
 use Rattle.climb.specs.Levels.{entries_on, kept_on}
 use Rattle.climb.proofs.Reading.{reads}
 use Rattle.climb.proofs.Counting.{kept_small}
+use borrow.Author.Rules.{rules}
 use Rattle.climb.proofs.kept_in.Goals as goal
 
 pub bucket_part-part-requires : goal.bucket_part-part-requires

@@ -23,10 +23,10 @@ for-two q =
 -- they are in it
 laid : (q : After-write_sent) →
     let a = q.args in
-    q.write_sent.new.0 ≡ into a.head a.fresh (sent_list a.p) a.card.now
+    q.write_sent.new.card ≡ into a.head a.fresh (sent_list a.p) a.card.now
 laid q =
     let rd = q.requires.ready.0 in
-    let two = for-two q.Then-p in
+    let two = (let at-once : let a = q.args in (a.fresh ≤ a.head.n) × (length (sent_list a.p) ≡ 2) = let a = q.args in let cap = rw (root-two a.head a.stamp a.p a.fresh a.card.now q.if-p.true) at q.requires.card_bound in (omega arith, rw q.if-p.true) in at-once) in
     q.write_sent.ensures
     ∙ sym (into-puts _ _ _ [] _ _ (rd.free _ (omega arith) two.0) (omega (arith, rd.shape.lim.m4)) (omega (arith, q.first_sector-at.ensures)))
 

@@ -52,7 +52,7 @@ write_new-requires-else-n-limit-2 c =
     let m = rd.shape.lim.m4 in
     let fit = both-fit (goal.at.write_new-requires-else-n-limit-2 c).Else-n-limit in
     let cut = c.halved-cut.ensures in
-    let filled : Ready a.head c.write_new-else-n-limit.new.0 [] (a.fresh + 1) = rw c.write_new-else-n-limit.ensures (ready-into _ _ _ _ _ rd (omega arith)) in record { shape = (filled.shape, omega arith, omega arith, filled.free (a.fresh + 1) (omega arith) (omega arith)); from_le_to = (omega arith, hs.most, omega (arith, c.requires.holds), hs.long, drop-small c.halved-cut.result (held a.h) hs.small) }
+    let filled : Ready a.head c.write_new-else-n-limit.new.card [] (a.fresh + 1) = rw c.write_new-else-n-limit.ensures (ready-into _ _ _ _ _ rd (omega arith)) in record { shape = (filled.shape, omega arith, omega arith, filled.free (a.fresh + 1) (omega arith) (omega arith)); from_le_to = (omega arith, hs.most, omega (arith, c.requires.holds), hs.long, drop-small c.halved-cut.result (held a.h) hs.small) }
 
 pub returns-then-n-limit : goal.returns-then-n-limit
 unfolding own_card

@@ -1,0 +1,18 @@
+-- `trail::descend` walks down and writes down what it meets. What is left of the walk, below what was met, gives what the whole gives.
+use borrow.Author.Rules.{rules}
+use mathlib.Core.Path.{◌≡◌}
+use mathlib.Core.List.{List, []}
+use Prim.Native.Nat.{ℕ, ◌+◌, ◌-◌, ◌≤◌}
+use native.Mathlib.Nat.{sub-zero}
+use native.Mathlib.Omega.{arith}
+use lib.ListN.{length, drop, set, length-set, drop_of_length-le}
+use Rattle.scan.proofs.Parts.{down-inside}
+use Rattle.trail.specs.Trail.{track_on, track_scan}
+use Rattle.trail.proofs.Tracks.{lost-leads, came-leads, deep-goes, track-out, track-turn}
+use Rattle.trail.proofs.descend.Given as goal
+
+abbrev pub invariant-loop-reads : goal.invariant-loop-reads
+invariant-loop-reads l = (l.reads ≤ l.head.n) × (l.reads ≤ length l.initial.path) × (1 ≤ l.b) × (l.b ≤ l.head.n) × (length l.path ≡ length l.initial.path) × (track_scan l.head l.card l.key (l.head.n - l.reads) (drop (length l.initial.path - l.reads) l.path) l.b l.header ≡ track_scan l.head l.card l.key l.head.n [] l.root 0)
+
+abbrev pub decreases-loop-reads : goal.decreases-loop-reads
+decreases-loop-reads l = l.head.n - l.reads
