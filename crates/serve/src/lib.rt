@@ -1,10 +1,11 @@
 // The bench program but for its main: the loop that takes the input byte by byte and answers each line when it ends.
 #![tactic(auto)]
 
-ghost use Rattle.std.specs.Prelude.{◌≡◌, true, ◌≤◌, length, take};
-ghost use Rattle.rules.specs.Bench.{bench_line, answer_line};
+ghost use Rattle.std.specs.Prelude.{◌≡◌, true, ◌≤◌, ◌<◌, length, take, IfSome};
+ghost use Rattle.std.specs.Io.KnownBytes.{Appends};
+ghost use Rattle.rules.specs.Bench.{bench_line, answer_line, bench};
 ghost use Rattle.session.specs.Cards.{Room};
-ghost use Rattle.serve.specs.Feeds.{Ready, keep, fed_to, byte_on, fed, heard, last_heard};
+ghost use Rattle.serve.specs.Feeds.{Ready, keep, fed_to, byte_on, fed, heard, last_heard, said};
 
 use std::io::{Read, Write};
 
@@ -75,6 +76,7 @@ fn chunk<W: Write>(to: &mut W, got: &[u8], room: &mut [u8], card: &mut [u8], out
     requires { Ready room.old card.old out.old s }
     ensures ready { Ready room.new card.new out.new result.state }
     ensures room_after { result.written ≡ true → fed_to (take result.state.len card.new) (take result.state.used room.new) ≡ fed (take s.len card.old) (take s.used room.old) got.now }
+    ensures out_after { result.written ≡ true → Appends (W.contents to.old) (W.contents to.new) (said (take s.len card.old) (take s.used room.old) got.now) }
 {
     let mut state = s;
     let mut i: usize = 0;
@@ -110,9 +112,11 @@ fn finish(room: &[u8], card: &mut [u8], out: &mut [u8], s: State) -> usize
 }
 
 // All of the input, a read at a time, and whether it could be read to its end and every answer written. A proved loop has to end,
-// so its turns are counted, up to a number that no run uses up.
+// so its turns are counted, up to a number that no run uses up. Where the reader's and the writer's bytes are known, what stands
+// written then is what the rules answer to the whole input.
 fn serve<R: Read, W: Write>(from: &mut R, to: &mut W, buf: &mut [u8], room: &mut [u8], card: &mut [u8], out: &mut [u8]) -> bool
     requires { (length room.old ≡ 128) × Room card.old 0 × (length out.old ≡ 96) }
+    ensures told { 0 < length buf.old → result ≡ true → IfSome (R.remaining from.old) (λ input. Appends (W.contents to.old) (W.contents to.new) (bench input)) }
 {
     let mut s = State {
         len: 0,
@@ -137,7 +141,9 @@ fn serve<R: Read, W: Write>(from: &mut R, to: &mut W, buf: &mut [u8], room: &mut
 }
 
 // The program: its input by lines, a line of answer for each. Whether all could be read and written.
-pub fn run<R: Read, W: Write>(from: &mut R, to: &mut W) -> bool {
+pub fn run<R: Read, W: Write>(from: &mut R, to: &mut W) -> bool
+    ensures told { result ≡ true → IfSome (R.remaining from.old) (λ input. Appends (W.contents to.old) (W.contents to.new) (bench input)) }
+{
     let mut buf = [0u8; 4096];
     let mut room = [0u8; 128];
     let mut card = [0u8; 65536];
