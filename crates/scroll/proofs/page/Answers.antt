@@ -6,9 +6,11 @@ use Rattle.scroll.proofs.page.Goals as goal
 pub returns-then-t-eq0 : goal.returns-then-t-eq0
 returns-then-t-eq0 c =
     let a = c.args in
-    records-all a.card.now a.at _ a.bib a.out.now c.counted-t.result c.counted-t.ensures.0 _ (search rules) c.lay.ensures
+    let both = records-all a.card.now a.at _ a.bib a.out.now c.counted-t.result c.counted-t.ensures.0 _ (search rules) c.lay.ensures in
+    record { value = both.0; out_after = both.1 }
 
 pub returns : goal.returns
 returns c =
     let a = c.args in
-    records-none a.card.now a.at _ a.bib a.out.now c.counted-t.result c.counted-t.ensures.0 (search rules)
+    let both = records-none a.card.now a.at _ a.bib a.out.now c.counted-t.result c.counted-t.ensures.0 (search rules) in
+    record { value = both.0; out_after = both.1 }

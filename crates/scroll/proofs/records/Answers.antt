@@ -14,7 +14,7 @@ use Rattle.scroll.proofs.records.Goals.{In-Sound}
 pub returns-in_default : goal.returns-in_default
 returns-in_default c =
     let a = c.args in
-    rw (records-broken a.card.now a.at _ a.bib (broken-none _ (sym c.read_head-layout.ensures ∙ c.in_default.is))) (refl, refl)
+    rw (records-broken a.card.now a.at _ a.bib (broken-none _ (sym c.read_head-layout.ensures ∙ c.in_default.is))) record { value = refl; out_after = refl }
 
 -- the card has a head
 head_at : (q : In-Sound) → (h : Head) × (head_of q.args.card.now ≡ some h)
@@ -27,7 +27,7 @@ pub returns-then-at-beginning : goal.returns-then-at-beginning
 returns-then-at-beginning c =
     let a = c.args in
     let h = head_at (goal.at.returns-then-at-beginning c).In-Sound in
-    rw (records-early a.card.now a.at _ a.bib h.0 h.1 (omega (arith, c.if-at-beginning.true, c.beginning.ensures))) (refl, refl)
+    rw (records-early a.card.now a.at _ a.bib h.0 h.1 (omega (arith, c.if-at-beginning.true, c.beginning.ensures))) record { value = refl; out_after = refl }
 
 pub returns : goal.returns
 returns c =

@@ -1,0 +1,13 @@
+-- `journal::strike` equals the rule for every slice and number.
+use borrow.Author.Rules.{rules}
+use native.Mathlib.Omega.{arith}
+use Rattle.laws.proofs.Entries.{strike-asks}
+use Rattle.rules.specs.Journal.{journal_strike}
+use Rattle.journal.proofs.strike.Goals as goal
+
+pub enter-requires : goal.enter-requires
+enter-requires c = let a = c.args in strike-asks a.bib a.at (omega arith) (omega arith)
+
+pub returns : goal.returns
+unfolding journal_strike
+returns c = c.enter.ensures
