@@ -72,7 +72,14 @@ pub struct Progress {
 }
 
 // The bytes of one read. An answer is written before the next byte is looked at; where it cannot be, nothing more is done.
-fn chunk<W: Write>(to: &mut W, got: &[u8], room: &mut [u8], card: &mut [u8], out: &mut [u8], s: State) -> Progress
+fn chunk<W: Write>(
+    to: &mut W,
+    got: &[u8],
+    room: &mut [u8],
+    card: &mut [u8],
+    out: &mut [u8],
+    s: State,
+) -> Progress
     requires { Ready room.old card.old out.old s }
     ensures ready { Ready room.new card.new out.new result.state }
     ensures room_after { result.written ≡ true → fed_to (take result.state.len card.new) (take result.state.used room.new) ≡ fed (take s.len card.old) (take s.used room.old) got.now }
@@ -114,7 +121,14 @@ fn finish(room: &[u8], card: &mut [u8], out: &mut [u8], s: State) -> usize
 // All of the input, a read at a time, and whether it could be read to its end and every answer written. A proved loop has to end,
 // so its turns are counted, up to a number that no run uses up. Where the reader's and the writer's bytes are known, what stands
 // written then is what the rules answer to the whole input.
-fn serve<R: Read, W: Write>(from: &mut R, to: &mut W, buf: &mut [u8], room: &mut [u8], card: &mut [u8], out: &mut [u8]) -> bool
+fn serve<R: Read, W: Write>(
+    from: &mut R,
+    to: &mut W,
+    buf: &mut [u8],
+    room: &mut [u8],
+    card: &mut [u8],
+    out: &mut [u8],
+) -> bool
     requires { (length room.old ≡ 128) × Room card.old 0 × (length out.old ≡ 96) }
     ensures told { 0 < length buf.old → result ≡ true → IfSome (R.remaining from.old) (λ input. Appends (W.contents to.old) (W.contents to.new) (bench input)) }
 {

@@ -12,8 +12,8 @@ invariant-loop-i g l = record {
   ready : Ready l.room l.card l.out l.state;
   so_far : fed (take l.state.len l.card) (take l.state.used l.room) (drop l.i l.got) ≡ fed (take l.fn.s.len l.fn.card) (take l.fn.s.used l.fn.room) l.got;
   to_come :
-    Still (g.W.Write.contents l.fn.to) (g.W.Write.contents l.to) (said (take l.fn.s.len l.fn.card) (take l.fn.s.used l.fn.room) l.got)
-    (said (take l.state.len l.card) (take l.state.used l.room) (drop l.i l.got));
+      Still (g.W.Write.contents l.fn.to) (g.W.Write.contents l.to) (said (take l.fn.s.len l.fn.card) (take l.fn.s.used l.fn.room) l.got)
+      (said (take l.state.len l.card) (take l.state.used l.room) (drop l.i l.got));
 }
 
 abbrev pub decreases-loop-i : goal.decreases-loop-i

@@ -1,6 +1,5 @@
 -- `serve::feed` keeps a byte where the room has a place for it.
 use native.Mathlib.Omega.{arith}
-use borrow.Author.Rules.{rules}
 use Rattle.serve.proofs.Turns.{kept_more, kept_full}
 use Rattle.serve.proofs.feed.Goals as goal
 

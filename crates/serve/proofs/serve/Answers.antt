@@ -13,9 +13,9 @@ returns-then-n-eq0 g c =
     let read = c.in-Ok.ensures.bytes in
     record {
       told = λ room all.
-        let wrote = had c.write_all.result (sym c.is_ok.ensures.value ∙ all) c.write_all.ensures.bytes in
-        let wide : 0 < length c.read.new.buf = omega arith in
-        along-done _ _ _ _ _ _ _ _ l.invariant.to_come (rw c.if-n-eq0.true at read.0) (read.1 c.if-n-eq0.true wide) (rw c.finish-said.ensures.0 at wrote);
+          let wrote = had c.write_all.result (sym c.is_ok.ensures.value ∙ all) c.write_all.ensures.bytes in
+          let wide : 0 < length c.read.new.buf = omega arith in
+          along-done _ _ _ _ _ _ _ _ l.invariant.to_come (rw c.if-n-eq0.true at read.0) (read.1 c.if-n-eq0.true wide) (rw c.finish-said.ensures.0 at wrote);
     }
 
 pub loop-preserved : goal.loop-preserved
