@@ -21,7 +21,7 @@ $(BENCH): $(SOURCES)
 
 $(ARCHIVE): $(SOURCES)
 	@echo "Proving the library and making its archive; the first time takes minutes."
-	@scripts/quietly rt staticlib card
+	@scripts/quietly scripts/build-archive
 
 # The archive, its header and a pkg-config file, below PREFIX.
 install: $(ARCHIVE)

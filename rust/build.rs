@@ -11,7 +11,7 @@ fn main() {
     println!("cargo:rerun-if-changed={}", library.display());
     if !library.is_file() {
         eprintln!(
-            "libcard.a is not in {}: build it with `rt staticlib card` at the root of the repository.",
+            "libcard.a is not in {}: build it with `scripts/build-archive` at the root of the repository.",
             folder.display()
         );
         process::exit(1);

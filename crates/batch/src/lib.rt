@@ -1,5 +1,7 @@
 // A morning's results at once: each request of a batch as its own call would be answered.
 // What a call reads off the whole card, its largest stamp, its highest bucket used and its root, is read once and carried along.
+#![tactic(auto)]
+
 ghost use Rattle.std.specs.Prelude.{◌≡◌, ◌+◌, ◌-◌, ◌*◌, ◌/◌, ◌%◌, ◌≤◌, eqb, ◌++◌, length, take, replicate};
 ghost use Rattle.std.proofs.Math.Option.{some};
 ghost use Rattle.rules.specs.Plain.{◌&◌};

@@ -1,4 +1,6 @@
 // The buckets and the log of a card, as parts of it, and the search of one of them.
+#![tactic(auto)]
+
 ghost use Rattle.std.specs.Prelude.{◌≡◌, ◌+◌, ◌-◌, ◌*◌, ◌≤◌, ◌<◌, length, drop, true, false};
 ghost use Rattle.rules.specs.Layout.{base};
 ghost use Rattle.rules.specs.Sector.{is_root, decode, sector_at};

@@ -1,4 +1,6 @@
 // Document 01's worked cases, and season cards, computed from the rules. There is nothing to do for it.
+#![tactic(auto)]
+
 ghost use Rattle.cases.specs.Growing.{GrowsAsSaid};
 ghost use Rattle.cases.specs.Session.{SessionAsSaid};
 ghost use Rattle.cases.specs.Rolls.{RollsAsSaid};

@@ -1,4 +1,6 @@
 // The way up of a write: the fresh buckets are counted first, so that a refusal is known before a byte is written; then the levels are written, the lowest first.
+#![tactic(auto)]
+
 ghost use Rattle.std.specs.Prelude.{◌≡◌, List, [], ◌∷◌, ◌+◌, ◌-◌, ◌*◌, ◌≤◌, ◌<◌, length, drop};
 ghost use Rattle.std.proofs.Math.Option.{some};
 ghost use Rattle.std.proofs.Math.Seq.{slice};

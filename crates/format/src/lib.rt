@@ -1,4 +1,6 @@
 // Format: a blank card becomes one with no result.
+#![tactic(auto)]
+
 ghost use Rattle.std.specs.Prelude.{◌≡◌, true, ◌-◌, ◌/◌, length};
 ghost use Rattle.rules.specs.Plain.{zeros};
 ghost use Rattle.rules.specs.Layout.{limits, size_of};

@@ -1,4 +1,6 @@
 // Everything ever said of one bib: the pages of its entries are counted, and laid down alike where all of them have room.
+#![tactic(auto)]
+
 ghost use Rattle.std.specs.Prelude.{◌≡◌, ◌*◌, ◌/◌, ◌≤◌, length};
 ghost use Rattle.std.proofs.Math.Option.{some};
 ghost use Rattle.rules.specs.History.{history};

@@ -1,4 +1,6 @@
 // A plain journal: accepted entries in arrival order on a lent slice of sectors, read through for each question.
+#![tactic(auto)]
+
 ghost use Rattle.std.specs.Prelude.{◌≡◌, ◌+◌, ◌-◌, ◌*◌, ◌≤◌, ◌<◌, length, true};
 ghost use Rattle.rules.specs.Journal.{journal, journal_plan, journal_post, journal_strike, journal_look, journal_next};
 ghost use Rattle.rules.specs.Write.{plan_answer, plan_card};

@@ -1,1 +1,2 @@
 // Laws of the rules that code and promises cite; no code.
+#![tactic(auto)]

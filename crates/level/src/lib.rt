@@ -1,4 +1,6 @@
 // One level of a write: how much of a bucket is written, what is kept of it, what goes up and what goes down.
+#![tactic(auto)]
+
 ghost use Rattle.std.specs.Prelude.{◌≡◌, ◌++◌, ◌+◌, ◌-◌, ◌*◌, ◌≤◌, ◌<◌, length, drop};
 ghost use Rattle.std.proofs.Math.Seq.{slice};
 ghost use Rattle.rules.specs.Rewrite.{key_of, kept, pair, limit_of};

@@ -1,4 +1,6 @@
 // The smallest standing bib above a given one, as of a stamp.
+#![tactic(auto)]
+
 ghost use Rattle.std.specs.Prelude.{◌≡◌, ◌≤◌, true};
 ghost use Rattle.rules.specs.Sector.{is_index, is_data};
 ghost use Rattle.rules.specs.Answers.{answer, ended};

@@ -1,4 +1,6 @@
 // A time as the panel's digits, or the refusal that keeps a wrong one dark.
+#![tactic(auto)]
+
 ghost use Rattle.std.specs.Prelude.{◌≡◌, false, ◌∷◌, [], ◌++◌, leb};
 ghost use Rattle.rules.specs.Panel.{hundredths, panel, panel_of, shown, seconds, minute, ten_minutes};
 

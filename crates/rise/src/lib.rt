@@ -1,4 +1,6 @@
 // The function over the path: it calls itself for the parent level with the new pairs, until a level has room or the root itself is rewritten.
+#![tactic(auto)]
+
 ghost use Rattle.std.specs.Prelude.{◌≡◌, ◌+◌, ◌≤◌, length, drop};
 ghost use Rattle.level.specs.Level.{sent_list, AllSmall};
 ghost use Rattle.climb.specs.Levels.{risen, rise_on, topped, Ready};

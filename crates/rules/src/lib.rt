@@ -1,4 +1,5 @@
 // The values that the rules speak of, and that the card's functions hand on.
+#![tactic(auto)]
 
 // A written sector's five fields.
 #[derive(Clone, Copy)]

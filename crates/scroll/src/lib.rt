@@ -1,4 +1,6 @@
 // The operator's scroll: the records above a bib as of a stamp, one at a time, or in a row into a lent buffer.
+#![tactic(auto)]
+
 ghost use Rattle.std.specs.Prelude.{◌≡◌, ◌/◌, length};
 ghost use Rattle.rules.specs.Next.{next};
 ghost use Rattle.scroll.specs.Scroll.{last_after, after};

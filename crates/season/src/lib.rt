@@ -1,4 +1,6 @@
 // The season card: what stands as of a stamp goes on to a blank second card.
+#![tactic(auto)]
+
 ghost use Rattle.std.specs.Prelude.{◌≡◌, true, ◌+◌, ◌-◌, ◌≤◌, length};
 ghost use Rattle.rules.specs.Plain.{zeros};
 ghost use Rattle.rules.specs.Sector.{put, encode, root_entry};

@@ -1,4 +1,6 @@
 // Sixteen bytes of a card, read and judged.
+#![tactic(auto)]
+
 ghost use Rattle.std.specs.Prelude.{◌≡◌, ◌+◌, ◌*◌, ◌≤◌, length, leb, eqb};
 ghost use Rattle.rules.specs.Plain.{◌&◌, zeros};
 ghost use Rattle.rules.specs.Sector.{word, decode, fields, status_fits, other_row, legal, sector_at};

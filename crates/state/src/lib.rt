@@ -1,4 +1,6 @@
 // What a controller has to know of a card that it opens again.
+#![tactic(auto)]
+
 ghost use Rattle.std.specs.Prelude.{◌≡◌, ◌≤◌};
 ghost use Rattle.rules.specs.State.{state_of, no_state, state};
 

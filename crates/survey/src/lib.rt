@@ -1,4 +1,6 @@
 // The bucket area looked through: the stamps in it, and the highest bucket with a nonzero byte.
+#![tactic(auto)]
+
 ghost use Rattle.std.specs.Prelude.{◌≡◌, true, false, ◌+◌, ◌-◌, ◌*◌, ◌≤◌, ◌<◌, max, length, drop, leb};
 ghost use Rattle.rules.specs.Plain.{◌or◌, zeros};
 ghost use Rattle.rules.specs.Write.{stamp_of, top_stamp, top_used, stamp_on};

@@ -1,4 +1,6 @@
 // The walk of a write: as of the latest stamp, with the buckets it met written down, the lowest level first.
+#![tactic(auto)]
+
 ghost use Rattle.std.specs.Prelude.{◌≡◌, ◌≤◌, false, [], length};
 ghost use Rattle.laws.proofs.Roots.{root_now};
 ghost use Rattle.bucket.specs.Shapes.{Shape};

@@ -1,1 +1,2 @@
 // What a write keeps of the tree of buckets; no code.
+#![tactic(auto)]

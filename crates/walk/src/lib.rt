@@ -1,4 +1,6 @@
 // The walk to a bib as of a stamp, and the look.
+#![tactic(auto)]
+
 ghost use Rattle.std.specs.Prelude.{◌≡◌, ◌≤◌};
 ghost use Rattle.rules.specs.Answers.{refused};
 ghost use Rattle.rules.specs.Look.{look};

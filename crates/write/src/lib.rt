@@ -1,4 +1,6 @@
 // Post and strike: an entry is refused with its number, or laid down as the rules say.
+#![tactic(auto)]
+
 ghost use Rattle.std.specs.Prelude.{◌≡◌, false, List, [], ◌∷◌, ℕ, ◌+◌, ◌-◌, ◌≤◌, ltb, eqb, length};
 ghost use Rattle.std.proofs.Math.Option.{some};
 ghost use Rattle.rules.specs.declared.Entry.{Entry};

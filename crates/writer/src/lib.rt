@@ -1,4 +1,6 @@
 // The one writer of a card: sixteen bytes of it are lent to `write_sector`, and no other function stores a byte of a card.
+#![tactic(auto)]
+
 ghost use Rattle.std.specs.Prelude.{◌≡◌, ◌+◌, ◌*◌, ◌≤◌, ◌<◌, length};
 ghost use Rattle.rules.specs.Sector.{le4, encode, put};
 ghost use Rattle.rules.specs.Layout.{head_bytes};

@@ -1,5 +1,4 @@
 -- `bucket::blank_behind`: sectors are blank where their bytes are zero.
-use borrow.Author.Rules.{rules}
 use mathlib.Core.Path.{◌∙◌}
 use Rattle.scan.proofs.Blanks.{rest-blank}
 use Rattle.bucket.proofs.blank_behind.Goals as goal

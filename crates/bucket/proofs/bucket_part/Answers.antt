@@ -3,7 +3,6 @@ use native.Mathlib.Nat.{sub-zero}
 use native.Mathlib.Omega.{arith}
 use lib.ListN.{length-take}
 use Rattle.scan.specs.Look.{part_of}
-use borrow.Author.Rules.{rules}
 use Rattle.bucket.proofs.bucket_part.Goals as goal
 
 pub returns : goal.returns

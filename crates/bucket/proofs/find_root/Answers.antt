@@ -1,7 +1,6 @@
 -- `bucket::find_root` meets its contract: the last root entry of the log stamped `stamp` or earlier.
 use Rattle.laws.proofs.Heads.{log-fits}
 use Rattle.bucket.proofs.Places.{log-found}
-use borrow.Author.Rules.{rules}
 use Rattle.bucket.proofs.find_root.Goals as goal
 
 pub returns : goal.returns

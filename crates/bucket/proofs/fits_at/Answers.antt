@@ -3,7 +3,6 @@ use mathlib.Core.Path.{ap, sym, ◌∙◌}
 use Rattle.scan.specs.Back.{holds}
 use Rattle.scan.proofs.Back.{no-entry}
 use Rattle.bucket.specs.Places.{data_fits}
-use borrow.Author.Rules.{rules}
 use borrow.Enum.Refused.{opened}
 use Rattle.bucket.proofs.fits_at.Goals as goal
 

@@ -5,7 +5,6 @@ use lib.ListN.{length, drop, length-drop, length-take}
 use lib.Seq.{take_all}
 use Rattle.rules.specs.Layout.{base}
 use Rattle.bucket.proofs.Room.{Room, room}
-use borrow.Author.Rules.{rules}
 use Rattle.bucket.proofs.from_bucket.Goals as goal
 use Rattle.bucket.proofs.from_bucket.Goals.{After-struct_known-2-1}
 

@@ -4,7 +4,6 @@ use native.Mathlib.Nat.{add-sub_cancel_left}
 use lib.ListN.{length-take, length-drop}
 use Rattle.scan.specs.Look.{log_of}
 use Rattle.bucket.proofs.Room.{log-room}
-use borrow.Author.Rules.{rules}
 use Rattle.bucket.proofs.log_part.Goals as goal
 
 pub slice_bounds-result-end : goal.slice_bounds-result-end

@@ -1,5 +1,5 @@
 -- What is left before sector `end`, its blanks passed over, is what the whole gives so.
-use Prim.Native.Nat.{◌≤◌, ◌-◌}
+use Prim.Native.Nat.{◌-◌}
 use mathlib.Core.Path.{◌≡◌, refl}
 use native.Mathlib.Omega.{arith}
 use Rattle.rules.specs.Plain.{if}

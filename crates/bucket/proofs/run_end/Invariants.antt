@@ -1,11 +1,7 @@
 -- What is left before sector `end`, its blanks passed over, is what the whole gives so.
-use Prim.Native.Nat.{◌≤◌, ◌-◌}
-use mathlib.Core.Path.{◌≡◌, refl}
-use native.Mathlib.Omega.{arith}
-use Rattle.rules.specs.Plain.{if}
+use Prim.Native.Nat.{◌≤◌}
+use mathlib.Core.Path.{◌≡◌}
 use Rattle.scan.specs.Back.{last_first, written}
-use Rattle.scan.proofs.Back.{back_end, pass-turn}
-use borrow.Author.Rules.{rules}
 use Rattle.bucket.proofs.run_end.Given as goal
 
 abbrev pub invariant-loop-end : goal.invariant-loop-end

@@ -1,8 +1,7 @@
 -- What is left before sector i, passed through from its last sector down, gives what the scan of the whole bucket gives.
-use Prim.Native.Nat.{◌≤◌, ◌-◌}
+use Prim.Native.Nat.{◌-◌}
 use mathlib.Core.Path.{◌≡◌, refl, ap, ◌∙◌}
 use mathlib.Core.Bool.{Bool, false}
-use mathlib.Core.List.{◌∷◌}
 use native.Mathlib.Omega.{arith}
 use Rattle.rules.specs.Plain.{if}
 use Rattle.scan.specs.declared.Found.TheVariants.{Nothing, Damage, Hit}
@@ -51,11 +50,11 @@ returns-in_default c = no-entry-first _ _ _ _ (opened c.in_default.in_default-ow
     (omega (arith, c.if-i-eq0.false)) c.at-s.ensures c.loop-i.invariant.1
 
 pub returns-then-sound_before : goal.returns-then-sound_before
-returns-then-sound_before c = rw c.if-sound_before.true at 
+returns-then-sound_before c = rw c.if-sound_before.true at
     (rw (c.if-data_fits.true, c.if-is_copy.true) at (met_at (goal.at.returns-then-sound_before c).After-data_fits _ _ c.is_copy.ensures c.sound_before.ensures))
 
 pub returns-else-sound_before : goal.returns-else-sound_before
-returns-else-sound_before c = rw c.if-sound_before.false at 
+returns-else-sound_before c = rw c.if-sound_before.false at
     (rw (c.if-data_fits.true, c.if-is_copy.true) at (met_at (goal.at.returns-else-sound_before c).After-data_fits _ _ c.is_copy.ensures c.sound_before.ensures))
 
 pub returns-else-data_fits : goal.returns-else-data_fits

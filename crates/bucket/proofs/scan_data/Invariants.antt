@@ -1,18 +1,11 @@
 -- What is left before sector i, passed through from its last sector down, gives what the scan of the whole bucket gives.
-use Prim.Native.Nat.{◌≤◌, ◌-◌}
-use mathlib.Core.Path.{◌≡◌, refl, ap, ◌∙◌}
-use mathlib.Core.Bool.{Bool, false}
-use mathlib.Core.List.{◌∷◌}
-use native.Mathlib.Omega.{arith}
-use Rattle.rules.specs.Plain.{if}
-use Rattle.scan.specs.declared.Found.TheVariants.{Nothing, Damage, Hit}
+use Prim.Native.Nat.{◌≤◌}
+use mathlib.Core.Path.{◌≡◌}
+use mathlib.Core.Bool.{false}
+use Rattle.scan.specs.declared.Found.TheVariants.{Nothing}
 use Rattle.scan.specs.Scan.{sectors, scan_in, pick}
-use Rattle.scan.specs.Back.{last_first, sound, first_in}
-use Rattle.scan.proofs.Back.{from_last, back_end, back-turn, no-entry-first, first-met}
+use Rattle.scan.specs.Back.{last_first, first_in}
 use Rattle.bucket.specs.Places.{data_fits, is_copy}
-use Rattle.bucket.proofs.Places.{pick-copy}
-use borrow.Author.Rules.{rules}
-use borrow.Enum.Refused.{opened}
 use Rattle.bucket.proofs.scan_data.Given as goal
 
 abbrev pub invariant-loop-i : goal.invariant-loop-i

@@ -1,5 +1,5 @@
 -- What is left from sector i on, with the entry whose rank is kept, gives what the whole scan gives.
-use Prim.Native.Nat.{ℕ, ◌≤◌, ◌+◌, ◌*◌, ◌-◌, ◌%◌}
+use Prim.Native.Nat.{◌+◌, ◌-◌, ◌%◌}
 use mathlib.Core.Path.{◌≡◌, refl, ap, sym, ◌∙◌}
 use mathlib.Core.Bool.{true}
 use mathlib.Core.List.{◌∷◌}

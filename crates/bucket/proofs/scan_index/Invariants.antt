@@ -1,17 +1,10 @@
 -- What is left from sector i on, with the entry whose rank is kept, gives what the whole scan gives.
-use Prim.Native.Nat.{ℕ, ◌≤◌, ◌+◌, ◌*◌, ◌-◌, ◌%◌}
-use mathlib.Core.Path.{◌≡◌, refl, ap, sym, ◌∙◌}
+use Prim.Native.Nat.{ℕ, ◌≤◌, ◌+◌, ◌*◌, ◌-◌}
+use mathlib.Core.Path.{◌≡◌}
 use mathlib.Core.Bool.{true}
-use mathlib.Core.List.{◌∷◌}
-use native.Mathlib.Nat.{sub-zero}
-use native.Mathlib.Omega.{arith}
 use Rattle.scan.specs.declared.Found.TheVariants.{Nothing}
 use Rattle.scan.specs.Scan.{sectors, scan_in, pick}
-use Rattle.scan.proofs.Loops.{sectors-turn, sectors-end, damaged-at}
 use Rattle.bucket.specs.Places.{found_at, key_at, index_fits}
-use Rattle.bucket.proofs.Places.{rank-turn, place_is}
-use borrow.Author.Rules.{rules}
-use borrow.Enum.Refused.{opened}
 use Rattle.bucket.proofs.scan_index.Given as goal
 
 abbrev pub invariant-loop-i : goal.invariant-loop-i

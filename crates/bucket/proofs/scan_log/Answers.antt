@@ -1,5 +1,5 @@
 -- What is left from sector i on, with the entry at the place kept, gives what the whole scan gives.
-use Prim.Native.Nat.{◌≤◌, ◌+◌, ◌-◌}
+use Prim.Native.Nat.{◌+◌, ◌-◌}
 use mathlib.Core.Path.{◌≡◌, sym, ◌∙◌}
 use mathlib.Core.List.{◌∷◌}
 use native.Mathlib.Nat.{sub-zero}

@@ -1,19 +1,10 @@
 -- What is left from sector i on, with the entry at the place kept, gives what the whole scan gives.
-use Prim.Native.Nat.{◌≤◌, ◌+◌, ◌-◌}
-use mathlib.Core.Path.{◌≡◌, sym, ◌∙◌}
-use mathlib.Core.List.{◌∷◌}
-use native.Mathlib.Nat.{sub-zero}
-use native.Mathlib.Omega.{arith}
-use lib.Dec.{leb}
-use borrow.Author.Tests.{eq-eqb, ne_eqb}
+use Prim.Native.Nat.{◌≤◌, ◌-◌}
+use mathlib.Core.Path.{◌≡◌}
 use Rattle.rules.specs.Sector.{is_root}
 use Rattle.scan.specs.declared.Found.TheVariants.{Nothing}
 use Rattle.scan.specs.Scan.{sectors, scan_in, pick_root}
-use Rattle.scan.proofs.Loops.{sectors-turn, sectors-end, damaged-at}
 use Rattle.bucket.specs.Places.{found_at}
-use Rattle.bucket.proofs.Places.{log-place, place-le}
-use borrow.Author.Rules.{rules}
-use borrow.Enum.Refused.{opened}
 use Rattle.bucket.proofs.scan_log.Given as goal
 
 abbrev pub invariant-loop-i : goal.invariant-loop-i

@@ -1,7 +1,6 @@
 -- `bucket::search` meets its contract: the search of bucket b of the card.
 use Rattle.laws.proofs.Heads.{bucket-fits}
 use Rattle.scan.proofs.Parts.{search-part}
-use borrow.Author.Rules.{rules}
 use Rattle.bucket.proofs.search.Goals as goal
 
 pub returns : goal.returns

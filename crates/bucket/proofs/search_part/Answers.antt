@@ -4,7 +4,6 @@ use mathlib.Core.Bool.{true, false}
 use Rattle.scan.specs.Scan.{way_of}
 use Rattle.scan.proofs.Loops.{first-none, first-other}
 use Rattle.bucket.proofs.Places.{search-index, search-data}
-use borrow.Author.Rules.{rules}
 use borrow.Enum.Refused.{opened}
 use Rattle.bucket.proofs.search_part.Goals as goal
 

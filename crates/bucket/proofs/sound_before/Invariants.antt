@@ -1,13 +1,8 @@
 -- The sectors left are sound exactly where all before the i-th are.
-use Prim.Native.Nat.{◌≤◌, ◌-◌}
-use mathlib.Core.Path.{◌≡◌, refl, ap, ◌∙◌}
-use mathlib.Core.Bool.{Bool}
-use native.Mathlib.Omega.{arith}
-use Rattle.rules.specs.Plain.{◌&◌}
+use Prim.Native.Nat.{◌≤◌}
+use mathlib.Core.Path.{◌≡◌}
 use Rattle.scan.specs.Back.{last_first, sound}
-use Rattle.scan.proofs.Back.{back_end, back-turn}
 use Rattle.bucket.specs.Places.{data_fits}
-use borrow.Author.Rules.{rules}
 use Rattle.bucket.proofs.sound_before.Given as goal
 
 abbrev pub invariant-loop-left : goal.invariant-loop-left

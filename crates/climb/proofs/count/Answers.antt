@@ -2,12 +2,12 @@
 use borrow.Author.Rules.{rules}
 use mathlib.Core.Path.{◌≡◌, refl, ap, sym, ◌∙◌}
 use mathlib.Core.List.{List, []}
-use Prim.Native.Nat.{ℕ, ◌+◌, ◌-◌, ◌*◌, ◌≤◌}
+use Prim.Native.Nat.{ℕ}
 use native.Mathlib.Omega.{arith}
-use lib.ListN.{length, drop}
+use lib.ListN.{drop}
 use lib.ListN.{drop_of_length-le}
-use Rattle.level.specs.Level.{sent_list, AllSmall}
-use Rattle.climb.specs.Levels.{tally, count_on, needs_of, fresh_over, is_open, AllRead}
+use Rattle.level.specs.Level.{sent_list}
+use Rattle.climb.specs.Levels.{tally, count_on, needs_of, fresh_over, is_open}
 use Rattle.climb.proofs.Counting.{read_at, ends-here, goes_on, count_none}
 use Rattle.climb.proofs.count.Goals as goal
 

@@ -1,14 +1,9 @@
 -- `climb::count` foretells what the write needs. What the levels left give from here is what all give from the start.
-use borrow.Author.Rules.{rules}
-use mathlib.Core.Path.{◌≡◌, refl, ap, sym, ◌∙◌}
-use mathlib.Core.List.{List, []}
-use Prim.Native.Nat.{ℕ, ◌+◌, ◌-◌, ◌*◌, ◌≤◌}
-use native.Mathlib.Omega.{arith}
+use mathlib.Core.Path.{◌≡◌}
+use Prim.Native.Nat.{◌+◌, ◌-◌, ◌*◌, ◌≤◌}
 use lib.ListN.{length, drop}
-use lib.ListN.{drop_of_length-le}
 use Rattle.level.specs.Level.{sent_list, AllSmall}
-use Rattle.climb.specs.Levels.{tally, count_on, needs_of, fresh_over, is_open, AllRead}
-use Rattle.climb.proofs.Counting.{read_at, ends-here, goes_on, count_none}
+use Rattle.climb.specs.Levels.{tally, count_on, AllRead}
 use Rattle.climb.proofs.count.Given as goal
 
 abbrev pub invariant-loop-i : goal.invariant-loop-i

@@ -3,7 +3,6 @@ use mathlib.Core.Path.{◌≡◌, ap, sym, ◌∙◌, subst}
 use mathlib.Core.List.{List, ◌++◌}
 use Prim.Native.Nat.{ℕ}
 use native.Mathlib.Omega.{arith}
-use lib.ListN.{length-map}
 use Rattle.rules.specs.declared.Entry.{Entry}
 use Rattle.rules.specs.Rewrite.{kept, key_of}
 use mathlib.Core.Path.{ap₂}

@@ -1,5 +1,4 @@
 -- `climb::new_root` lays down the root over two pairs, and the log entry.
-use borrow.Author.Rules.{rules}
 use mathlib.Core.Path.{◌≡◌, sym, ◌∙◌}
 use mathlib.Core.List.{[]}
 use Prim.Native.Nat.{◌≤◌}

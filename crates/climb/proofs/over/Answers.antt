@@ -1,5 +1,4 @@
 -- `climb::over` adds what a new root needs.
-use borrow.Author.Rules.{rules}
 use Rattle.climb.specs.Levels.{needs_of, fresh_over, is_open}
 use Rattle.climb.proofs.over.Goals as goal
 

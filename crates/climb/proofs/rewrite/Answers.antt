@@ -1,5 +1,4 @@
 -- `climb::rewrite` fills the fresh buckets of a level and hands on their pairs.
-use borrow.Author.Rules.{rules}
 use mathlib.Core.Path.{refl}
 use native.Mathlib.Omega.{arith}
 use Rattle.climb.proofs.Reading.{reads}

@@ -1,5 +1,4 @@
 -- `climb::sent_up` makes what a rewritten level hands on.
-use borrow.Author.Rules.{rules}
 use mathlib.Core.Path.{ap, sym, subst}
 use Prim.Native.Nat.{ℕ, ◌+◌}
 use native.Mathlib.Omega.{arith}

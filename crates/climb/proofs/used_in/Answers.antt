@@ -1,5 +1,4 @@
 -- `climb::used_in` counts the entries of a bucket that is read.
-use borrow.Author.Rules.{rules}
 use mathlib.Core.Path.{◌≡◌, ap, ◌∙◌}
 use mathlib.Core.List.{List}
 use Prim.Native.Nat.{ℕ}

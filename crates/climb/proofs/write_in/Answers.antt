@@ -1,5 +1,4 @@
 -- `climb::write_in` fills the first blanks of a bucket.
-use borrow.Author.Rules.{rules}
 use mathlib.Core.Path.{sym, ◌∙◌}
 use native.Mathlib.Omega.{arith}
 use Rattle.rules.specs.Layout.{base}

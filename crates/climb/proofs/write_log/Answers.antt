@@ -1,5 +1,4 @@
 -- `climb::write_log` writes a root entry at the first blank of the log.
-use borrow.Author.Rules.{rules}
 use mathlib.Core.Path.{◌≡◌, ap, sym, ◌∙◌}
 use mathlib.Core.List.{List, [], ◌∷◌}
 use Prim.Native.Nat.{ℕ, ◌+◌, ◌-◌}

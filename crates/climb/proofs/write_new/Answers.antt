@@ -1,5 +1,4 @@
 -- `climb::write_new` fills one fresh bucket.
-use borrow.Author.Rules.{rules}
 use mathlib.Core.Path.{sym, ◌∙◌}
 use mathlib.Core.List.{[]}
 use native.Mathlib.Omega.{arith}

@@ -1,5 +1,4 @@
 -- `climb::write_own` fills one fresh bucket, or two.
-use borrow.Author.Rules.{rules}
 use mathlib.Core.Path.{subst}
 use mathlib.Core.List.{[]}
 use Prim.Native.Nat.{◌+◌, ◌≤◌}
@@ -36,13 +35,16 @@ write_new-requires-else-n-limit c =
     let hs = c.requires.holds.0 in
     let m = rd.shape.lim.m4 in
     let fit = both-fit (goal.at.write_new-requires-else-n-limit c).Else-n-limit in
-    let cut = c.halved-cut.ensures in record { shape = (rd.shape, rd.least, omega arith, rd.free a.fresh (omega arith) (omega arith)); from_le_to = (
+    let cut = c.halved-cut.ensures in record {
+      shape = (rd.shape, rd.least, omega arith, rd.free a.fresh (omega arith) (omega arith));
+      from_le_to = (
         omega arith,
         omega (arith, hs.most),
         omega (arith, c.requires.holds),
         hs.long,
         subst AllSmall (take-take _ _ a.h.entries cut.1) (take-small c.halved-cut.result (held a.h) hs.small),
-      ) }
+      );
+    }
 
 pub write_new-requires-else-n-limit-2 : goal.write_new-requires-else-n-limit-2
 write_new-requires-else-n-limit-2 c =

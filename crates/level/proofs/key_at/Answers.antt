@@ -1,8 +1,8 @@
 -- `level::key_at` reads a key of the hand.
 use borrow.Author.Rules.{rules}
-use mathlib.Core.Path.{◌≡◌, sym, ◌∙◌}
+use mathlib.Core.Path.{◌≡◌}
 use native.Mathlib.Omega.{arith}
-use lib.ListN.{length, length-map}
+use lib.ListN.{length}
 use Rattle.hand.proofs.Turns.{none}
 use Rattle.level.proofs.Turns.{key_in, key-out}
 use Rattle.level.proofs.key_at.Goals as goal

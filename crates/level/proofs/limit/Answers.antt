@@ -1,5 +1,4 @@
 -- `level::limit` takes TI or TD by the kind of the first sector.
-use borrow.Author.Rules.{rules}
 use Rattle.level.proofs.Turns.{limit-index, limit-data}
 use Rattle.level.proofs.limit.Goals as goal
 

@@ -1,5 +1,4 @@
 -- `level::pair_at` makes a pair.
-use borrow.Author.Rules.{rules}
 use Rattle.rules.specs.Rewrite.{pair}
 use Rattle.level.proofs.pair_at.Goals as goal
 

@@ -1,5 +1,4 @@
 -- `level::pairs` makes the pairs of the new buckets.
-use borrow.Author.Rules.{rules}
 use mathlib.Core.Path.{◌≡◌, ap, ◌∙◌}
 use Prim.Native.Nat.{ℕ, ◌-◌, ◌/◌}
 use native.Mathlib.Omega.{arith}

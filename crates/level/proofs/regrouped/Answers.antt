@@ -1,10 +1,9 @@
 -- `level::regrouped` keeps what the rule keeps, by the four steps of the hand.
 use borrow.Author.Rules.{rules}
-use mathlib.Core.Path.{◌≡◌, sym, ◌∙◌}
+use mathlib.Core.Path.{◌≡◌, sym}
 use mathlib.Core.List.{◌++◌}
-use Prim.Native.Nat.{◌+◌}
 use native.Mathlib.Omega.{arith}
-use lib.ListN.{length, length-map}
+use lib.ListN.{length}
 use lib.Seq.{length-take-le}
 use Rattle.level.specs.Level.{sent_list}
 use Rattle.rules.specs.Rewrite.{key_of}

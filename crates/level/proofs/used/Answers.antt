@@ -1,10 +1,7 @@
 -- `level::used` counts a bucket's written sectors. Those counted and those left to count are those of the whole.
 use borrow.Author.Rules.{rules}
-use mathlib.Core.Path.{◌≡◌}
-use Prim.Native.Nat.{◌-◌, ◌≤◌}
 use native.Mathlib.Nat.{sub-zero}
 use Rattle.level.proofs.Turns.{used-here, used_turn, used-end}
-use Rattle.level.specs.Level.{used_of}
 use Rattle.level.proofs.used.Goals as goal
 
 pub loop-u-init : goal.loop-u-init

@@ -1,14 +1,10 @@
 -- `level::write_run` lays entries down in a row. What is left to lay down, on the card as it is, gives what all gives on the card that came.
 use borrow.Author.Rules.{rules}
-use mathlib.Core.Path.{◌≡◌, refl, sym, ◌∙◌}
-use Prim.Native.Nat.{◌+◌, ◌-◌, ◌≤◌}
+use mathlib.Core.Path.{◌≡◌, refl}
 use native.Mathlib.Omega.{arith}
-use lib.ListN.{length, length-map}
-use lib.Seq.{slice}
+use lib.ListN.{length}
 use Rattle.hand.proofs.Turns.{none}
 use Rattle.level.proofs.Turns.{puts-turn, puts-end, small-turn}
-use Rattle.writer.specs.Rows.{puts}
-use Rattle.level.specs.Level.{AllSmall}
 use Rattle.level.proofs.write_run.Goals as goal
 use Rattle.level.proofs.write_run.Goals.{Start}
 

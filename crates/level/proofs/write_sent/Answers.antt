@@ -1,5 +1,4 @@
 -- `level::write_sent` lays down what was sent.
-use borrow.Author.Rules.{rules}
 use native.Mathlib.Omega.{arith}
 use Rattle.level.proofs.write_sent.Goals as goal
 

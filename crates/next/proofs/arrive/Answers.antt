@@ -3,7 +3,6 @@ use Rattle.laws.proofs.Heads.{bucket-fits}
 use Rattle.scan.specs.Next.{leg_of}
 use Rattle.scan.proofs.Parts.{part-sectors}
 use Rattle.next.proofs.Rounds.{none-stands}
-use borrow.Author.Rules.{rules}
 use borrow.Enum.Refused.{opened}
 use Rattle.next.proofs.arrive.Goals as goal
 

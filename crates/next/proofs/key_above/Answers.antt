@@ -1,7 +1,6 @@
 -- `next::key_above` meets its contract: the least index key above x, with bucket b's.
 use Rattle.laws.proofs.Heads.{bucket-fits}
 use Rattle.scan.proofs.Parts.{part-sectors}
-use borrow.Author.Rules.{rules}
 use Rattle.next.proofs.key_above.Goals as goal
 
 -- the part has the bucket's sectors

@@ -5,7 +5,6 @@ use Rattle.bucket.proofs.Room.{shape_of}
 use Rattle.laws.proofs.Heads.{head-fits}
 use Rattle.walk.proofs.Walks.{broken-none, sound-some}
 use Rattle.next.proofs.Rounds.{next-broken, next-early, next-lost, next-rounds}
-use borrow.Author.Rules.{rules}
 use borrow.Enum.Refused.{opened}
 use Rattle.next.proofs.next.Goals as goal
 

@@ -1,5 +1,5 @@
 -- With f walks left from x on the answer is that of all walks; x rises, so f is never spent.
-use Prim.Native.Nat.{ℕ, ◌≤◌, ◌<◌, ◌+◌, ◌-◌}
+use Prim.Native.Nat.{◌<◌, ◌-◌}
 use mathlib.Core.Path.{◌≡◌, refl, ◌∙◌}
 use native.Mathlib.Omega.{arith}
 use Rattle.scan.specs.Next.{leg, after, rounds}

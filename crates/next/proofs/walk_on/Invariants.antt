@@ -1,12 +1,7 @@
 -- With f walks left from x on the answer is that of all walks; x rises, so f is never spent.
-use Prim.Native.Nat.{ℕ, ◌≤◌, ◌<◌, ◌+◌, ◌-◌}
-use mathlib.Core.Path.{◌≡◌, refl, ◌∙◌}
-use native.Mathlib.Omega.{arith}
-use Rattle.scan.specs.Next.{leg, after, rounds}
-use Rattle.scan.proofs.Parts.{root-found}
-use Rattle.next.proofs.Rounds.{leg-root, no_more, round-turn, round-rises}
-use borrow.Author.Rules.{rules}
-use borrow.Enum.Refused.{opened}
+use Prim.Native.Nat.{ℕ, ◌≤◌, ◌+◌, ◌-◌}
+use mathlib.Core.Path.{◌≡◌}
+use Rattle.scan.specs.Next.{rounds}
 use Rattle.next.proofs.walk_on.Given as goal
 
 abbrev pub invariant-loop-e : goal.invariant-loop-e

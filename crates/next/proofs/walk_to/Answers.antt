@@ -1,5 +1,5 @@
 -- What is left of the walk from bucket b, with the least key so far, gives what the whole walk gives.
-use Prim.Native.Nat.{◌≤◌, ◌+◌, ◌-◌}
+use Prim.Native.Nat.{◌+◌, ◌-◌}
 use mathlib.Core.Path.{◌≡◌}
 use native.Mathlib.Nat.{sub-zero}
 use native.Mathlib.Omega.{arith}

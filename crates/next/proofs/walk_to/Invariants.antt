@@ -1,14 +1,8 @@
 -- What is left of the walk from bucket b, with the least key so far, gives what the whole walk gives.
-use Prim.Native.Nat.{◌≤◌, ◌+◌, ◌-◌}
+use Prim.Native.Nat.{◌≤◌, ◌-◌}
 use mathlib.Core.Path.{◌≡◌}
-use native.Mathlib.Nat.{sub-zero}
-use native.Mathlib.Omega.{arith}
 use Rattle.scan.specs.declared.Found.TheVariants.{Nothing}
-use Rattle.scan.specs.Next.{pick_up, weigh, stand_in, sectors_of, leg_of, stride, leg_scan}
-use Rattle.scan.proofs.Loops.{leg-turn, leg-out}
-use Rattle.scan.proofs.Parts.{down-inside}
-use Rattle.scan.proofs.Judged.{down-runs, absent-runs, copy-runs}
-use borrow.Author.Rules.{rules}
+use Rattle.scan.specs.Next.{leg_scan}
 use Rattle.next.proofs.walk_to.Given as goal
 
 abbrev pub invariant-loop-reads : goal.invariant-loop-reads

@@ -1,7 +1,7 @@
 -- `rise::rise`, which calls itself: the levels left fall, and what the rule makes of the levels from here is what it makes of the rest from the parent.
 use native.Mathlib.Omega.{arith}
 use Prim.Native.Nat.{ℕ}
-use lib.ListN.{length, drop_of_length-le}
+use lib.ListN.{drop_of_length-le}
 use Rattle.climb.specs.Levels.{rise_on}
 use Rattle.climb.proofs.Rising.{none_left}
 use Rattle.climb.proofs.Counting.{read_at}

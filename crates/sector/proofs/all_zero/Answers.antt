@@ -1,5 +1,4 @@
 -- `sector::all_zero`: the four quarters and what is left of them are the whole.
-use borrow.Author.Rules.{rules}
 use Prim.Native.Nat.{◌/◌}
 use lib.ListN.{length}
 use Rattle.sector.proofs.Zeros.{quarters}

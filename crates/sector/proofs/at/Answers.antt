@@ -1,5 +1,4 @@
 -- `sector::at` meets its contract: what the sixteen bytes say.
-use borrow.Author.Rules.{rules}
 use Rattle.sector.proofs.at.Goals as goal
 
 pub returns : goal.returns

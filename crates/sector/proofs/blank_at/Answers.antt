@@ -1,6 +1,5 @@
 -- `sector::blank_at`: sixteen bytes are zero where their four words are.
 use Rattle.scan.proofs.Words.{zeros-words}
-use borrow.Author.Rules.{rules}
 use Rattle.sector.proofs.blank_at.Goals as goal
 
 pub returns : goal.returns

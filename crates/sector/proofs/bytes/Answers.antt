@@ -3,7 +3,6 @@ use native.Mathlib.Nat.{add-sub_cancel_left}
 use native.Mathlib.Omega.{arith}
 use lib.ListN.{length-take, length-drop}
 use Rattle.rules.specs.Sector.{sector_at}
-use borrow.Author.Rules.{rules}
 use Rattle.sector.proofs.bytes.Goals as goal
 
 pub returns : goal.returns

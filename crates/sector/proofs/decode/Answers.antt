@@ -1,7 +1,6 @@
 -- `sector::decode` meets its contract: what a sector is, on a card of n buckets.
 use native.Mathlib.Omega.{arith}
 use Rattle.scan.proofs.Words.{decode-words}
-use borrow.Author.Rules.{rules}
 use Rattle.sector.proofs.decode.Goals as goal
 
 pub returns : goal.returns

@@ -1,5 +1,4 @@
 -- `sector::fields_at` reads the five fields.
-use borrow.Author.Rules.{rules}
 use Rattle.rules.specs.Sector.{fields}
 use Rattle.sector.proofs.fields_at.Goals as goal
 

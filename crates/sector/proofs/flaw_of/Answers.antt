@@ -1,5 +1,4 @@
 -- `sector::flaw_of` meets its contract: 2, then 14.
-use borrow.Author.Rules.{rules}
 use borrow.Author.Tests.{eq-eqb, ne_eqb}
 use mathlib.Core.Path.{sym, ◌∙◌}
 use Rattle.sector.specs.Flaws.{flaw_of}

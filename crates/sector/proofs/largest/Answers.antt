@@ -1,11 +1,8 @@
 -- The bytes seen of the four parts are all zero where the largest of them is, and the rest decides the rest.
-use Prim.Native.Nat.{◌≤◌, ◌-◌}
 use mathlib.Core.Path.{◌≡◌, refl}
 use native.Mathlib.Omega.{arith}
 use lib.ListN.{length}
-use lib.Dec.{eqb}
-use Rattle.rules.specs.Plain.{◌&◌}
-use Rattle.sector.proofs.Zeros.{four, four-step, four-end}
+use Rattle.sector.proofs.Zeros.{four-step, four-end}
 use borrow.Author.Rules.{rules}
 use Rattle.sector.proofs.largest.Goals as goal
 

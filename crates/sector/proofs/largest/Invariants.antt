@@ -1,12 +1,10 @@
 -- The bytes seen of the four parts are all zero where the largest of them is, and the rest decides the rest.
 use Prim.Native.Nat.{◌≤◌, ◌-◌}
-use mathlib.Core.Path.{◌≡◌, refl}
-use native.Mathlib.Omega.{arith}
+use mathlib.Core.Path.{◌≡◌}
 use lib.ListN.{length}
 use lib.Dec.{eqb}
 use Rattle.rules.specs.Plain.{◌&◌}
-use Rattle.sector.proofs.Zeros.{four, four-step, four-end}
-use borrow.Author.Rules.{rules}
+use Rattle.sector.proofs.Zeros.{four}
 use Rattle.sector.proofs.largest.Given as goal
 
 abbrev pub invariant-loop-i : goal.invariant-loop-i

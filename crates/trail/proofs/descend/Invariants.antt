@@ -1,14 +1,9 @@
 -- `trail::descend` walks down and writes down what it meets. What is left of the walk, below what was met, gives what the whole gives.
-use borrow.Author.Rules.{rules}
 use mathlib.Core.Path.{◌≡◌}
-use mathlib.Core.List.{List, []}
-use Prim.Native.Nat.{ℕ, ◌+◌, ◌-◌, ◌≤◌}
-use native.Mathlib.Nat.{sub-zero}
-use native.Mathlib.Omega.{arith}
-use lib.ListN.{length, drop, set, length-set, drop_of_length-le}
-use Rattle.scan.proofs.Parts.{down-inside}
-use Rattle.trail.specs.Trail.{track_on, track_scan}
-use Rattle.trail.proofs.Tracks.{lost-leads, came-leads, deep-goes, track-out, track-turn}
+use mathlib.Core.List.{[]}
+use Prim.Native.Nat.{◌-◌, ◌≤◌}
+use lib.ListN.{length, drop}
+use Rattle.trail.specs.Trail.{track_scan}
 use Rattle.trail.proofs.descend.Given as goal
 
 abbrev pub invariant-loop-reads : goal.invariant-loop-reads

@@ -1,5 +1,4 @@
 -- `trail::root_of` is the bucket of the log's last root entry.
-use borrow.Author.Rules.{rules}
 use Rattle.trail.proofs.Tracks.{no-root, hit-root}
 use borrow.Enum.Refused.{opened}
 use Rattle.trail.proofs.root_of.Goals as goal

@@ -1,5 +1,4 @@
 -- `trail::walk_down` starts at the root.
-use borrow.Author.Rules.{rules}
 use mathlib.Core.Path.{refl, subst}
 use native.Mathlib.Omega.{arith}
 use lib.ListN.{length}

@@ -1,12 +1,7 @@
 -- What is left of the walk from bucket b, with the buckets counted so far, gives what the whole walk gives.
-use Prim.Native.Nat.{◌≤◌, ◌+◌, ◌-◌}
+use Prim.Native.Nat.{◌≤◌, ◌-◌}
 use mathlib.Core.Path.{◌≡◌}
-use native.Mathlib.Nat.{sub-zero}
-use native.Mathlib.Omega.{arith}
-use Rattle.scan.specs.Look.{onward, walk_scan}
-use Rattle.scan.proofs.Loops.{walk_turn, walk-out}
-use Rattle.scan.proofs.Parts.{down-inside}
-use borrow.Author.Rules.{rules}
+use Rattle.scan.specs.Look.{walk_scan}
 use Rattle.walk.proofs.descend.Given as goal
 
 abbrev pub invariant-loop-reads : goal.invariant-loop-reads

@@ -4,7 +4,6 @@ use native.Mathlib.Omega.{arith}
 use Rattle.bucket.proofs.Room.{shape_of}
 use Rattle.laws.proofs.Heads.{head-fits}
 use Rattle.walk.proofs.Walks.{broken-none, sound-some, look-broken, look-zero, look-early, look-told}
-use borrow.Author.Rules.{rules}
 use Rattle.walk.proofs.look.Goals as goal
 
 pub returns-in_default : goal.returns-in_default

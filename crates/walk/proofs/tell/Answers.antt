@@ -5,7 +5,6 @@ use Rattle.rules.specs.Answers.{sheet}
 use Rattle.rules.specs.Sector.{is_post}
 use Rattle.rules.specs.Walk.{standing}
 use Rattle.scan.specs.Look.{told}
-use borrow.Author.Rules.{rules}
 use Rattle.walk.proofs.tell.Goals as goal
 
 pub returns-then-e-eq1 : goal.returns-then-e-eq1

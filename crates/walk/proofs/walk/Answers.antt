@@ -3,7 +3,6 @@ use mathlib.Core.Path.{sym, ◌∙◌}
 use Rattle.scan.specs.Look.{trip_from}
 use Rattle.scan.proofs.Parts.{root-found}
 use Rattle.walk.proofs.Walks.{no-root}
-use borrow.Author.Rules.{rules}
 use borrow.Enum.Refused.{opened}
 use Rattle.walk.proofs.walk.Goals as goal
 

@@ -5,7 +5,6 @@ use Prim.Native.Nat.{◌+◌, ◌*◌, ◌-◌}
 use native.Mathlib.Omega.{arith}
 use Rattle.rules.specs.Sector.{put}
 use Rattle.writer.proofs.Laws.{lent_back}
-use borrow.Author.Rules.{rules}
 use Rattle.writer.proofs.lend.Goals as goal
 
 pub returns : goal.returns

@@ -2,7 +2,6 @@
 use mathlib.Core.Path.{ap, ◌∙◌}
 use Rattle.rules.specs.Sector.{put}
 use Rattle.writer.proofs.Laws.{head-words}
-use borrow.Author.Rules.{rules}
 use Rattle.writer.proofs.write_head.Goals as goal
 
 pub returns : goal.returns

@@ -1,6 +1,5 @@
 -- `writer::write_sector` lays down four words.
 use Rattle.writer.proofs.Laws.{four-lent}
-use borrow.Author.Rules.{rules}
 use Rattle.writer.proofs.write_sector.Goals as goal
 
 pub returns : goal.returns

@@ -1,7 +1,6 @@
 -- `writer::write_word` lays down the four bytes of a number.
 use Rattle.rules.specs.Sector.{le4}
 use Rattle.writer.proofs.Laws.{stored-all}
-use borrow.Author.Rules.{rules}
 use Rattle.writer.proofs.write_word.Goals as goal
 
 pub returns : goal.returns

@@ -1,5 +1,4 @@
 -- `bucket::picks::data_fits` meets its contract.
-use borrow.Author.Rules.{rules}
 use Rattle.bucket.specs.Places.{data_fits}
 use Rattle.bucket.proofs.picks.data_fits.Goals as goal
 

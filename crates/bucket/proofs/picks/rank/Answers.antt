@@ -1,6 +1,5 @@
 -- `bucket::picks::rank` meets its contract.
 use borrow.Author.Tests.{le-leb, lt-leb}
-use borrow.Author.Rules.{rules}
 use Rattle.bucket.specs.Places.{rank}
 use Rattle.bucket.proofs.picks.rank.Goals as goal
 

@@ -4,7 +4,6 @@ use mathlib.Core.Path.{◌≡◌, refl}
 use Rattle.scan.specs.declared.Found.TheVariants.{Damage}
 use Rattle.scan.specs.declared.Way.TheVariants.{Lost}
 use Rattle.scan.specs.Scan.{way_of}
-use borrow.Author.Rules.{rules}
 use Rattle.bucket.proofs.picks.way_of.Goals as goal
 
 lost : (index : Bool) → Lost ≡ way_of index Damage

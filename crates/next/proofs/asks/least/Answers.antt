@@ -1,18 +1,14 @@
 -- `next::asks::least`: what is left from sector i on, with the entry whose rank is kept, gives what the whole gives.
 use borrow.Author.Rules.{rules}
 use mathlib.Core.Path.{◌≡◌, refl, ap, ◌∙◌}
-use mathlib.Core.Bool.{Bool, true}
-use Prim.Native.Nat.{ℕ, ◌-◌, ◌≤◌, ◌<◌}
+use Prim.Native.Nat.{◌<◌}
 use native.Mathlib.Nat.{sub-zero}
 use native.Mathlib.Omega.{arith}
-use Rattle.rules.specs.declared.Entry.{Entry}
-use Rattle.scan.specs.declared.Found.TheVariants.{Nothing}
-use Rattle.scan.specs.Scan.{sectors}
 use Rattle.scan.specs.Next.{above_at, weigh, runs}
 use Rattle.scan.proofs.Loops.{sectors-turn, sectors-end}
 use Rattle.scan.proofs.Judged.{fields-turn}
 use Rattle.bucket.specs.Places.{found_at}
-use Rattle.next.proofs.Ranks.{Ranked, unranked, above-turn, place_is}
+use Rattle.next.proofs.Ranks.{unranked, above-turn, place_is}
 use Rattle.next.proofs.asks.least.Goals as goal
 use Rattle.next.proofs.asks.least.Goals.{After-place_of}
 

@@ -1,18 +1,13 @@
 -- `next::asks::least`: what is left from sector i on, with the entry whose rank is kept, gives what the whole gives.
-use borrow.Author.Rules.{rules}
-use mathlib.Core.Path.{◌≡◌, refl, ap, ◌∙◌}
+use mathlib.Core.Path.{◌≡◌}
 use mathlib.Core.Bool.{Bool, true}
-use Prim.Native.Nat.{ℕ, ◌-◌, ◌≤◌, ◌<◌}
-use native.Mathlib.Nat.{sub-zero}
-use native.Mathlib.Omega.{arith}
+use Prim.Native.Nat.{ℕ, ◌-◌, ◌≤◌}
 use Rattle.rules.specs.declared.Entry.{Entry}
 use Rattle.scan.specs.declared.Found.TheVariants.{Nothing}
 use Rattle.scan.specs.Scan.{sectors}
 use Rattle.scan.specs.Next.{above_at, weigh, runs}
-use Rattle.scan.proofs.Loops.{sectors-turn, sectors-end}
-use Rattle.scan.proofs.Judged.{fields-turn}
 use Rattle.bucket.specs.Places.{found_at}
-use Rattle.next.proofs.Ranks.{Ranked, unranked, above-turn, place_is}
+use Rattle.next.proofs.Ranks.{Ranked}
 use Rattle.next.proofs.asks.least.Given as goal
 
 abbrev pub invariant-loop-i : goal.invariant-loop-i

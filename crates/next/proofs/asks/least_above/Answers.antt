@@ -1,5 +1,4 @@
 -- `next::asks::least_above`: in an index bucket every entry is one of an index.
-use borrow.Author.Rules.{rules}
 use mathlib.Core.Path.{ap, ◌∙◌}
 use Rattle.scan.specs.Next.{lower}
 use Rattle.scan.proofs.Judged.{index-least}

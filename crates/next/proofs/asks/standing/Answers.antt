@@ -1,13 +1,11 @@
 -- `next::asks::standing`: the bib that stands next above x is the one that stands next above k; x rises.
 use borrow.Author.Rules.{rules}
 use borrow.Author.Tests.{eq-eqb, ne_eqb}
-use mathlib.Core.Path.{◌≡◌, refl, sym, ◌∙◌}
-use Prim.Native.Nat.{◌-◌, ◌≤◌, ◌<◌}
+use mathlib.Core.Path.{refl, sym, ◌∙◌}
+use Prim.Native.Nat.{◌<◌}
 use native.Mathlib.Omega.{arith}
 use Rattle.rules.specs.Sector.{is_data, is_post}
-use Rattle.scan.specs.declared.Found.TheVariants.{Nothing}
 use Rattle.scan.specs.Scan.{sectors}
-use Rattle.scan.specs.Next.{stand_in}
 use Rattle.scan.proofs.Judged.{none-next, next-rises, post-next, strike-next}
 use borrow.Enum.Refused.{opened}
 use Rattle.next.proofs.asks.standing.Goals as goal

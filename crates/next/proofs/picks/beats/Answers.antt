@@ -1,6 +1,5 @@
 -- `next::picks::beats` meets its contract.
 use Rattle.next.specs.Ranks.{beats}
-use borrow.Author.Rules.{rules}
 use Rattle.next.proofs.picks.beats.Goals as goal
 
 pub returns-in-Damage : goal.returns-in-Damage

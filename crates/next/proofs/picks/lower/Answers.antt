@@ -1,5 +1,4 @@
 -- `next::picks::lower` meets its contract.
-use borrow.Author.Rules.{rules}
 use mathlib.Core.Path.{sym, ◌∙◌}
 use mathlib.Core.Bool.{true, false}
 use Rattle.scan.specs.Next.{lower}

@@ -1,6 +1,5 @@
 -- `next::picks::rank_above` meets its contract.
 use borrow.Author.Tests.{le-leb, lt-leb, lt-ltb, le-ltb}
-use borrow.Author.Rules.{rules}
 use native.Mathlib.Omega.{arith}
 use Rattle.next.specs.Ranks.{rank_above}
 use Rattle.next.proofs.picks.rank_above.Goals as goal

@@ -1,5 +1,4 @@
 -- `walk::head::beginning` reads bytes 8..11 of the head.
-use borrow.Author.Rules.{rules}
 use mathlib.Core.Path.{ap, ◌∙◌}
 use mathlib.Core.List.{List}
 use Prim.Native.Nat.{ℕ}

@@ -1,6 +1,5 @@
 -- `walk::head::head_fields` meets its contract.
 use Rattle.rules.specs.Layout.{head_fields}
-use borrow.Author.Rules.{rules}
 use Rattle.walk.proofs.head.head_fields.Goals as goal
 
 pub returns : goal.returns

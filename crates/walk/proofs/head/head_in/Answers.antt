@@ -1,7 +1,6 @@
 -- `walk::head::head_in` meets its contract.
 use Rattle.rules.specs.Layout.{head_in}
 use Rattle.walk.specs.Heads.{layout_of}
-use borrow.Author.Rules.{rules}
 use Rattle.walk.proofs.head.head_in.Goals as goal
 
 pub returns-then-keeps_layout : goal.returns-then-keeps_layout

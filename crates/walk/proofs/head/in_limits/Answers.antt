@@ -1,6 +1,5 @@
 -- `walk::head::in_limits` meets its contract.
 use Rattle.rules.specs.Layout.{limits}
-use borrow.Author.Rules.{rules}
 use Rattle.walk.proofs.head.in_limits.Goals as goal
 
 pub returns-then-in_range-3 : goal.returns-then-in_range-3

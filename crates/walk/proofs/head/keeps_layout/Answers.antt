@@ -1,6 +1,5 @@
 -- `walk::head::keeps_layout` meets its contract.
 use borrow.Author.Tests.{eq-eqb, ne_eqb}
-use borrow.Author.Rules.{rules}
 use Rattle.walk.proofs.head.keeps_layout.Goals as goal
 
 pub returns-then-end-eq0 : goal.returns-then-end-eq0

@@ -5,7 +5,6 @@ use Rattle.rules.specs.Layout.{head_of}
 use Rattle.rules.specs.Sector.{sector_at}
 use Rattle.walk.specs.Heads.{layout_of}
 use Rattle.walk.proofs.Sizes.{short_none}
-use borrow.Author.Rules.{rules}
 use Rattle.walk.proofs.head.read_head.Goals as goal
 
 pub returns-then-len-lt16 : goal.returns-then-len-lt16

@@ -1,7 +1,6 @@
 -- `walk::head::suits` meets its contract: whether a card of this length can have the geometry.
 use mathlib.Core.Path.{sym, ◌∙◌}
 use Rattle.laws.proofs.Heads.{limits-hold}
-use borrow.Author.Rules.{rules}
 use Rattle.walk.proofs.head.suits.Goals as goal
 
 pub has_size-requires : goal.has_size-requires

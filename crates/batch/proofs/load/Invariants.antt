@@ -1,0 +1,23 @@
+-- `batch::load` answers the requests one after the other. What is left of them, on the card as it is, gives what the whole gives.
+use borrow.Author.Rules.{rules}
+use mathlib.Core.Path.{◌≡◌, refl, ap, sym, ◌∙◌}
+use mathlib.Core.Option.{some}
+use mathlib.Core.List.{List, ◌++◌}
+use Prim.Native.Nat.{ℕ, ◌-◌, ◌≤◌, ◌<◌}
+use native.Mathlib.Omega.{arith}
+use lib.ListN.{length, take, length-set}
+use Rattle.rules.specs.Layout.{head_of}
+use Rattle.rules.specs.Sector.{sector_at}
+use Rattle.rules.specs.Write.{plan_answer}
+use Rattle.rules.specs.Batch.{request, requests_in, card_of, answers_to}
+use Rattle.batch.specs.Carry.{Knows}
+use Rattle.batch.proofs.Carries.{card-turn, answers-turn, answered, all-answered, none_left, request-small}
+use Rattle.batch.proofs.load.Given as goal
+
+abbrev pub invariant-loop-i : goal.invariant-loop-i
+invariant-loop-i l = (1 ≤ l.i) × (l.i ≤ length l.initial.answers) × (length l.answers ≡ length l.initial.answers) × (length l.card ≡ length l.initial.card) × (head_of l.card ≡ some l.head) × Knows l.head l.card l.known
+    × (card_of l.card (requests_in l.requests l.i (length l.initial.answers - l.i)) ≡ card_of l.initial.card (requests_in l.requests 1 (length l.initial.answers - 1)))
+    × (take l.i l.answers ++ answers_to l.card (requests_in l.requests l.i (length l.initial.answers - l.i)) ≡ take 1 l.initial.answers ++ answers_to l.initial.card (requests_in l.requests 1 (length l.initial.answers - 1)))
+
+abbrev pub decreases-loop-i : goal.decreases-loop-i
+decreases-loop-i l = length l.initial.answers - l.i
