@@ -16,7 +16,7 @@ run: $(BENCH)
 test:
 	@scripts/gate
 
-$(BENCH): programs/bench.c $(SOURCES)
+$(BENCH): $(SOURCES)
 	@scripts/build-bench
 
 $(ARCHIVE): $(SOURCES)

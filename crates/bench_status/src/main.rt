@@ -1,4 +1,11 @@
-// The bench program on a session with all four statuses. The status it ends with is that of the main in C.
-fn main() {
-    let _all = serve::run();
+// The bench program on a session with all four statuses.
+#![tactic(auto)]
+
+use std::process::ExitCode;
+
+fn main(rt: HostRuntime) -> ExitCode {
+    if serve::run(&mut rt.stdin(), &mut rt.stdout()) {
+        return ExitCode::SUCCESS;
+    }
+    ExitCode::FAILURE
 }

@@ -1,4 +1,11 @@
 // The bench program on the session that ends a controller's assembly: a meeting loaded until its card is full.
-fn main() {
-    let _all = serve::run();
+#![tactic(auto)]
+
+use std::process::ExitCode;
+
+fn main(rt: HostRuntime) -> ExitCode {
+    if serve::run(&mut rt.stdin(), &mut rt.stdout()) {
+        return ExitCode::SUCCESS;
+    }
+    ExitCode::FAILURE
 }

@@ -1,4 +1,6 @@
 // The call that a line of the bench program asks for, its fields read one name and one number at a time.
+#![tactic(auto)]
+
 ghost use Rattle.std.specs.Prelude.{◌≡◌, ◌∷◌, [], ◌≤◌, length, drop};
 ghost use Rattle.rules.specs.Calls.{format_call, post_call};
 ghost use Rattle.rules.specs.Plain.{and_then};

@@ -1,4 +1,6 @@
 // An answer as the line that the bench program prints, laid down in a buffer that the caller lends.
+#![tactic(auto)]
+
 ghost use Rattle.std.specs.Prelude.{◌≡◌, ◌++◌, ◌+◌, ◌≤◌, length, drop};
 ghost use Rattle.rules.specs.Bench.{decimal, answer_line};
 ghost use Rattle.reply.specs.Laid.{laid};

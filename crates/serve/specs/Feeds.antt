@@ -38,6 +38,11 @@ unfoldable pub last_heard : List ℕ → List ℕ → List ℕ
 last_heard card [] = []
 last_heard card (x ∷ kept) = answer_line (bench_line card (x ∷ kept)).answer
 
+-- what is answered to some of the input, whose last line may still go on
+unfoldable pub said : List ℕ → List ℕ → List ℕ → List ℕ
+said card kept [] = []
+said card kept (b ∷ bs) = let one = byte_on card kept b in heard card kept b ++ said one.card one.kept bs
+
 unfoldable pub told : List ℕ → List ℕ → List ℕ → List ℕ
 told card kept [] = last_heard card kept
 told card kept (b ∷ bs) = let one = byte_on card kept b in heard card kept b ++ told one.card one.kept bs

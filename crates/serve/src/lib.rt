@@ -1,10 +1,13 @@
 // The bench program but for its main: the loop that takes the input byte by byte and answers each line when it ends.
-ghost use Rattle.std.specs.Prelude.{◌≡◌, true, ◌≤◌, length, take};
-ghost use Rattle.rules.specs.Bench.{bench_line, answer_line};
-ghost use Rattle.session.specs.Cards.{Room};
-ghost use Rattle.serve.specs.Feeds.{Ready, keep, fed_to, byte_on, fed, heard, last_heard};
+#![tactic(auto)]
 
-use libc::{STDIN_FILENO, STDOUT_FILENO};
+ghost use Rattle.std.specs.Prelude.{◌≡◌, true, ◌≤◌, ◌<◌, length, take, IfSome};
+ghost use Rattle.std.specs.Io.KnownBytes.{Appends};
+ghost use Rattle.rules.specs.Bench.{bench_line, answer_line, bench};
+ghost use Rattle.session.specs.Cards.{Room};
+ghost use Rattle.serve.specs.Feeds.{Ready, keep, fed_to, byte_on, fed, heard, last_heard, said};
+
+use std::io::{Read, Write};
 
 // Between two bytes of the input: the card's length, the bytes of a line that are in the room, and the bytes of an answer that are to be written.
 #[derive(Clone, Copy)]
@@ -69,17 +72,25 @@ pub struct Progress {
 }
 
 // The bytes of one read. An answer is written before the next byte is looked at; where it cannot be, nothing more is done.
-fn chunk(got: &[u8], room: &mut [u8], card: &mut [u8], out: &mut [u8], s: State) -> Progress
+fn chunk<W: Write>(
+    to: &mut W,
+    got: &[u8],
+    room: &mut [u8],
+    card: &mut [u8],
+    out: &mut [u8],
+    s: State,
+) -> Progress
     requires { Ready room.old card.old out.old s }
     ensures ready { Ready room.new card.new out.new result.state }
     ensures room_after { result.written ≡ true → fed_to (take result.state.len card.new) (take result.state.used room.new) ≡ fed (take s.len card.old) (take s.used room.old) got.now }
+    ensures out_after { result.written ≡ true → Appends (W.contents to.old) (W.contents to.new) (said (take s.len card.old) (take s.used room.old) got.now) }
 {
     let mut state = s;
     let mut i: usize = 0;
     while i < got.len() {
         state = byte(room, card, out, state, got[i]);
         let said = state.said;
-        let written = io::write_all(STDOUT_FILENO, &out[..said]);
+        let written = to.write_all(&out[..said]).is_ok();
         if !written {
             return Progress {
                 state,
@@ -108,41 +119,48 @@ fn finish(room: &[u8], card: &mut [u8], out: &mut [u8], s: State) -> usize
 }
 
 // All of the input, a read at a time, and whether it could be read to its end and every answer written. A proved loop has to end,
-// so its turns are counted down from a number that no run uses up.
-fn serve(buf: &mut [u8], room: &mut [u8], card: &mut [u8], out: &mut [u8]) -> bool
+// so its turns are counted, up to a number that no run uses up. Where the reader's and the writer's bytes are known, what stands
+// written then is what the rules answer to the whole input.
+fn serve<R: Read, W: Write>(
+    from: &mut R,
+    to: &mut W,
+    buf: &mut [u8],
+    room: &mut [u8],
+    card: &mut [u8],
+    out: &mut [u8],
+) -> bool
     requires { (length room.old ≡ 128) × Room card.old 0 × (length out.old ≡ 96) }
+    ensures told { 0 < length buf.old → result ≡ true → IfSome (R.remaining from.old) (λ input. Appends (W.contents to.old) (W.contents to.new) (bench input)) }
 {
     let mut s = State {
         len: 0,
         used: 0,
         said: 0,
     };
-    let mut turns = u64::MAX;
-    while turns > 0 {
-        let got = libc::read(STDIN_FILENO, buf);
-        if got < 0 {
+    for _ in 0..u64::MAX {
+        let Ok(n) = from.read(buf) else {
             return false;
-        }
-        if got == 0 {
+        };
+        if n == 0 {
             let said = finish(room, card, out, s);
-            return io::write_all(STDOUT_FILENO, &out[..said]);
+            return to.write_all(&out[..said]).is_ok();
         }
-        let n = io::count(got, buf);
-        let p = chunk(&buf[..n], room, card, out, s);
+        let p = chunk(to, &buf[..n], room, card, out, s);
         if !p.written {
             return false;
         }
         s = p.state;
-        turns -= 1;
     }
     false
 }
 
-// The program: standard input by lines, a line of answer for each. Whether all could be read and written.
-pub fn run() -> bool {
-    let mut buf = io::buffer();
+// The program: its input by lines, a line of answer for each. Whether all could be read and written.
+pub fn run<R: Read, W: Write>(from: &mut R, to: &mut W) -> bool
+    ensures told { result ≡ true → IfSome (R.remaining from.old) (λ input. Appends (W.contents to.old) (W.contents to.new) (bench input)) }
+{
+    let mut buf = [0u8; 4096];
     let mut room = [0u8; 128];
     let mut card = [0u8; 65536];
     let mut out = [0u8; 96];
-    serve(&mut buf, &mut room, &mut card, &mut out)
+    serve(from, to, &mut buf, &mut room, &mut card, &mut out)
 }

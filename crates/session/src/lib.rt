@@ -1,4 +1,6 @@
 // What a line of the bench program does to the card, which is the first bytes of a buffer.
+#![tactic(auto)]
+
 ghost use Rattle.std.specs.Prelude.{◌≡◌, take};
 ghost use Rattle.rules.specs.Calls.{answered};
 ghost use Rattle.rules.specs.Layout.{size_of};
