@@ -6,7 +6,7 @@ SHELL := /bin/bash
 PREFIX ?= /usr/local
 ARCHIVE := target/staticlib/libcard.a
 BENCH := target/bin/bench
-SOURCES := crates.txt $(shell find crates -name '*.rt' -o -name '*.antt')
+SOURCES := crates.txt $(shell find crates -path '*/out' -prune -o \( -name '*.rt' -o -name '*.antt' \) -print)
 
 # The sample sessions through the bench program, each line with its answer.
 run: $(BENCH)
@@ -16,7 +16,7 @@ run: $(BENCH)
 test:
 	@scripts/gate
 
-$(BENCH): $(SOURCES)
+$(BENCH): programs/bench.c $(SOURCES)
 	@scripts/build-bench
 
 $(ARCHIVE): $(SOURCES)

@@ -1,0 +1,20 @@
+// The bench program for its main in C, which alone can end with a status.
+#![tactic(auto)]
+
+ghost use Rattle.std.specs.Prelude.{◌≤◌};
+
+use std::io::{Stdin, Stdout};
+
+// 0 where all of the input could be read and every answer written, else 1. Standard input and output are handles of no bytes: C
+// passes nothing.
+#[unsafe(no_mangle)]
+pub extern "C" fn bench_run(from: Stdin, to: Stdout) -> u32
+    ensures { result ≤ 1 }
+{
+    let mut input = from;
+    let mut output = to;
+    if serve::run(&mut input, &mut output) {
+        return 0;
+    }
+    1
+}
