@@ -51,7 +51,8 @@ fn enter(card: &mut [u8], head: Head, e: Entry, known: Known) -> Carried
         deep: false,
     };
     let entered = write::insert(card, head, task);
-    if entered.code == 0 {
+    let accepted = entered.code == 0;
+    if accepted {
         let next = Known {
             stamp: e.stamp,
             used: entered.used,
@@ -165,7 +166,8 @@ fn answer_all(card: &mut [u8], head: Head, requests: &[u8], answers: &mut [u8])
     let first = begin(card, head, requests);
     let code = first.code;
     answers[0] = code as u8;
-    if count == 1 {
+    let alone = count == 1;
+    if alone {
         return;
     }
     let e = sector::fields_at(requests, 0);

@@ -219,7 +219,8 @@ fn search_part(part: &[u8], n: usize, m: usize, header: u32, key: u32, stamp: u3
     let Sector::Held(top) = first else {
         return Way::Lost;
     };
-    if top.key != header {
+    let astray = top.key != header;
+    if astray {
         return Way::Lost;
     }
     if top.kind == 3 {

@@ -211,7 +211,8 @@ fn write_log(card: &mut [u8], head: Head, root: u32, stamp: u32)
 {
     let n = head.n;
     let used = level::used(bucket::log_part(card, head), n);
-    if used < n {
+    let room = used < n;
+    if room {
         let e = Entry {
             kind: 4,
             status: 0,

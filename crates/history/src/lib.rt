@@ -42,7 +42,8 @@ fn counted(card: &[u8], head: Head, bib: u32, at: u32, places: usize, first: Pag
             if places < total + k {
                 return Fit::Short;
             }
-            if k < 34 {
+            let last = k < 34;
+            if last {
                 return Fit::Fits(total + k);
             }
             from = gather::next_from(hand);

@@ -180,7 +180,8 @@ fn standing(slice: &[u8], used: usize, k: u32, t: u32) -> Found
         let Found::Hit(e) = found else {
             break Found::Nothing;
         };
-        if e.kind == 1 {
+        let posted = e.kind == 1;
+        if posted {
             break Found::Hit(e);
         }
         x = next::picks::key_of(e);

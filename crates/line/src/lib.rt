@@ -94,7 +94,8 @@ fn run(line: &[u8], at: usize) -> Taken
     let mut i = at;
     while digit_at(line, i) {
         let next = value * 10 + (wide(line[i]) - 48);
-        if 4294967295 < next {
+        let too_large = 4294967295 < next;
+        if too_large {
             return Taken::Nothing;
         }
         value = next;
@@ -111,7 +112,8 @@ fn number(line: &[u8], at: usize) -> Taken
     if !digit_at(line, at) {
         return Taken::Nothing;
     }
-    if line[at] != 48 {
+    let nonzero = line[at] != 48;
+    if nonzero {
         return run(line, at);
     }
     if digit_at(line, at + 1) {

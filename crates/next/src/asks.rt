@@ -43,7 +43,8 @@ pub fn standing(part: &[u8], n: usize, m: usize, k: u32, t: u32) -> Found
         let Found::Hit(e) = found else {
             break Found::Nothing;
         };
-        if e.kind == 1 {
+        let posted = e.kind == 1;
+        if posted {
             break Found::Hit(e);
         }
         x = picks::key_of(e);

@@ -45,7 +45,8 @@ pub fn rank_above(x: u32, t: u32, e: Entry, place: usize) -> u64
     ensures { (result ≡ rank_above x t e place) × (e.key ≤ 4294967295) }
 {
     let key = wide(e.key);
-    if e.stamp <= t {
+    let in_time = e.stamp <= t;
+    if in_time {
         if x < e.key {
             return 64 * (4294967295 - key) + place as u64;
         }

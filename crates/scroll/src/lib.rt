@@ -25,7 +25,8 @@ pub struct Scroll<'a> {
 fn last_after(last: u32, bib: u32) -> u32
     ensures { result ≡ last_after last bib }
 {
-    if bib == 0 {
+    let at_end = bib == 0;
+    if at_end {
         return last;
     }
     bib
@@ -63,7 +64,8 @@ fn page(card: &[u8], bib: u32, at: u32, out: &mut [u8]) -> Tally
 {
     let places = out.len() / 16;
     let t = roll::counted(card, bib, at, places);
-    if t.code == 0 {
+    let sound = t.code == 0;
+    if sound {
         roll::lay(card, bib, at, out, t.count);
         return t;
     }

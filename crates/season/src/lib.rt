@@ -67,7 +67,8 @@ fn season_to(card: &[u8], at: u32, target: &mut [u8], head: Head) -> u32
     if walk::head::suits(head, target.len()) {
         if sector::all_zero(target) {
             let t = scroll::roll::counted(card, 0, at, 4294967296);
-            if t.code == 0 {
+            let sound = t.code == 0;
+            if sound {
                 let count = t.count;
                 let next = storeys::needed(quota(head), count + 1);
                 if next <= head.n + 1 {

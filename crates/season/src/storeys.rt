@@ -110,7 +110,8 @@ pub fn tower(target: &mut [u8], head: Head, stamp: u32, q: usize, first: usize, 
         let i = climb::first_sector(head, fresh);
         raise(target, head, stamp, q, b, i, c);
         let up = over(q, c);
-        if up < 2 {
+        let top = up < 2;
+        if top {
             return;
         }
         b = fresh;

@@ -28,8 +28,10 @@ pub fn read_word(s: &[u8], at: usize) -> u32
 pub fn status_fits(status: u32, time: u32) -> bool
     ensures { result ≡ status_fits status time }
 {
-    if status <= 3 {
-        if status == 0 {
+    let in_table = status <= 3;
+    if in_table {
+        let timed = status == 0;
+        if timed {
             return true;
         }
         return time == 0;

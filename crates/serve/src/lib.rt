@@ -54,7 +54,8 @@ fn byte(room: &mut [u8], card: &mut [u8], out: &mut [u8], s: State, b: u8) -> St
     ensures out_after { take result.said out.new ≡ heard (take s.len card.old) (take s.used room.old) b }
 {
     let used = s.used;
-    if b == 10 {
+    let ends = b == 10;
+    if ends {
         return respond(card, out, s.len, &room[..used]);
     }
     State {

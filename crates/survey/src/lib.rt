@@ -94,7 +94,8 @@ fn top_stamp(card: &[u8], from: usize, to: usize, enough: u32) -> u32
     while from < i {
         i -= 1;
         top = later(top, stamp_of(sector::bytes(card, i)));
-        if enough <= top {
+        let seen = enough <= top;
+        if seen {
             return top;
         }
     }

@@ -97,7 +97,8 @@ pub fn tell(bib: u32, reads: u32, found: Found) -> Answer
         Found::Damage => refusal(4),
         Found::Nothing => none,
         Found::Hit(e) => {
-            if e.kind == 1 {
+            let posted = e.kind == 1;
+            if posted {
                 return Answer {
                     code: 0,
                     bib,

@@ -100,7 +100,8 @@ fn objection(kind: u32, found: Found) -> u32
             if kind == 1 {
                 return 0;
             }
-            if e.kind == 1 {
+            let posted = e.kind == 1;
+            if posted {
                 return 0;
             }
             5

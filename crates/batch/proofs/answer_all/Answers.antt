@@ -43,12 +43,12 @@ module _ (requests card answers : List ℕ) (lt : 0 < length answers) (rest : Li
       (ap₂ (λ (n : ℕ) (l : List ℕ). n ∷ l) code_is (is ∙ ap (λ (c : List ℕ). answers_to c (requests_in requests 1 (length answers - 1))) New-is) ∙ sym (answers-turn requests 0 (length answers) lt card)
       ∙ ap (λ (n : ℕ). answers_to card (requests_in requests 0 n)) (sub-zero (length answers)))
 
-pub returns-then-count-eq1 : goal.returns-then-count-eq1
+pub returns-then-alone : goal.returns-then-alone
 unfolding card_of answers_to requests_in
-returns-then-count-eq1 c =
+returns-then-alone c =
     let a = c.args in
     let b = c.begin-first.ensures in
-    let one : length a.answers.now ≡ 1 = omega (arith, c.if-count-eq1.true) in
+    let one : length a.answers.now ≡ 1 = omega (arith, c.if-alone.true) in
     let requests = a.requests.now in
     let lt : 0 < length a.answers.now = omega arith in
     let none : length a.answers.now - 1 ≡ 0 = omega arith in

@@ -46,14 +46,14 @@ did q =
     (lt-leb a.e.stamp (stamp_on a.head a.card.now) (omega (arith, q.requires.2.stamp, q.if-e-known.false))))
     q.insert-entered.ensures
 
-pub returns-then-entered-eq0 : goal.returns-then-entered-eq0
-returns-then-entered-eq0 c =
+pub returns-then-accepted : goal.returns-then-accepted
+returns-then-accepted c =
     let a = c.args in
-    let by = get-bytes a.card.now (λ i. omega (arith, (goal.at.returns-then-entered-eq0 c).Else-flaw-ne0.type_inv.card i)) in
-    laid a.head a.card.now c.requires.0 by a.e c.requires.1 a.known c.requires.2 _ _ (did (goal.at.returns-then-entered-eq0 c).After-insert-entered) (omega (arith, c.if-entered-eq0.true))
+    let by = get-bytes a.card.now (λ i. omega (arith, (goal.at.returns-then-accepted c).Else-flaw-ne0.type_inv.card i)) in
+    laid a.head a.card.now c.requires.0 by a.e c.requires.1 a.known c.requires.2 _ _ (did (goal.at.returns-then-accepted c).After-insert-entered) (omega (arith, c.if-accepted.true))
 
 pub returns : goal.returns
 returns c =
     let a = c.args in
     let by = get-bytes a.card.now (λ i. omega (arith, (goal.at.returns c).Else-flaw-ne0.type_inv.card i)) in
-    not-laid a.head a.card.now c.requires.0 by a.e c.requires.1 a.known c.requires.2 _ _ (did (goal.at.returns c).After-insert-entered) c.if-entered-eq0.false
+    not-laid a.head a.card.now c.requires.0 by a.e c.requires.1 a.known c.requires.2 _ _ (did (goal.at.returns c).After-insert-entered) c.if-accepted.false

@@ -20,13 +20,13 @@ returns-then-places-total c =
     count-over a.bib a.at l.from (area a.head a.card.now) (held l.page.hand) (page-held l.page _ l.invariant.3 c.if-page.true)
     a.places l.total _ l.invariant.4 (omega (arith, l.invariant.2, c.if-places-total.true))
 
-pub returns-then-k-lt34 : goal.returns-then-k-lt34
+pub returns-then-last : goal.returns-then-last
 unfolding said
-returns-then-k-lt34 c =
+returns-then-last c =
     let l = c.loop-page in
     let a = c.args in
     let last = count-last a.bib a.at l.from (area a.head a.card.now) (held l.page.hand) (page-held l.page _ l.invariant.3 c.if-page.true)
-    a.places l.total _ l.invariant.4 (omega (arith, l.invariant.2, c.if-k-lt34.true)) (omega (arith, l.invariant.2, c.if-places-total.false)) in
+    a.places l.total _ l.invariant.4 (omega (arith, l.invariant.2, c.if-last.true)) (omega (arith, l.invariant.2, c.if-places-total.false)) in
     rw l.invariant.2 at last
 
 pub page_from-page-requires : goal.page_from-page-requires
@@ -38,8 +38,8 @@ loop-page-preserved c =
     let l = c.loop-page in
     let a = c.args in
     let more = count-more a.bib a.at l.from (area a.head a.card.now) (held l.page.hand) (page-held l.page _ l.invariant.3 c.if-page.true)
-    a.places l.total _ l.invariant.4 (omega (arith, l.invariant.1, l.invariant.2, c.if-k-lt34.false)) in
-    (omega (arith, l.invariant.1, c.if-k-lt34.false, c.if-places-total.false), c.page_from-page.ensures.0, c.page_from-page.ensures.1, c.page_from-page.ensures.2, rw c.next_from-from.ensures more)
+    a.places l.total _ l.invariant.4 (omega (arith, l.invariant.1, l.invariant.2, c.if-last.false)) in
+    (omega (arith, l.invariant.1, c.if-last.false, c.if-places-total.false), c.page_from-page.ensures.0, c.page_from-page.ensures.1, c.page_from-page.ensures.2, rw c.next_from-from.ensures more)
 
 pub returns-else-page : goal.returns-else-page
 returns-else-page c =

@@ -23,18 +23,18 @@ pub loop-e-preserved : goal.loop-e-preserved
 unfolding is_post
 loop-e-preserved c =
     let again = strike-next is_data (sectors 0 c.args.slice.now 0 c.args.used) c.requires.1 c.loop-e.x c.args.t _ _ c.least-found.ensures c.in-Hit.is
-    (ne_eqb c.in-Hit.e.kind 1 c.if-e-eq1.false) in
+    (ne_eqb c.in-Hit.e.kind 1 c.if-posted.false) in
     (c.key_of-x.ensures.1, rw c.key_of-x.ensures.0 (sym again ∙ c.loop-e.invariant.1))
 
 pub returns-in_default : goal.returns-in_default
 returns-in_default c =
     none-next is_data (sectors 0 c.args.slice.now 0 c.args.used) c.requires.1 c.loop-e.x c.args.t _ c.least-found.ensures (opened c.in_default.in_default-own.keys2) ∙ c.loop-e.invariant.1
 
-pub returns-then-e-eq1 : goal.returns-then-e-eq1
+pub returns-then-posted : goal.returns-then-posted
 unfolding is_post
-returns-then-e-eq1 c =
+returns-then-posted c =
     post-next is_data (sectors 0 c.args.slice.now 0 c.args.used) c.requires.1 c.loop-e.x c.args.t _ _ c.least-found.ensures c.in-Hit.is
-    (eq-eqb c.in-Hit.e.kind 1 c.if-e-eq1.true) ∙ c.loop-e.invariant.1
+    (eq-eqb c.in-Hit.e.kind 1 c.if-posted.true) ∙ c.loop-e.invariant.1
 
 pub loop-e-init : goal.loop-e-init
 loop-e-init c = (search rules, refl)

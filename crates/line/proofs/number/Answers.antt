@@ -18,11 +18,11 @@ bounds-line-at c =
     let a = c.args in
     (digit-first a.line.now a.at (sym c.digit_at.ensures ∙ c.if-not-digit_at.false)).0
 
-pub returns-then-line-at-ne48 : goal.returns-then-line-at-ne48
-returns-then-line-at-ne48 c =
+pub returns-then-nonzero : goal.returns-then-nonzero
+returns-then-nonzero c =
     let a = c.args in
     let d = sym c.digit_at.ensures ∙ c.if-not-digit_at.false in
-    (c.run.ensures.0 ∙ number-run a.line.now a.at d c.if-line-at-ne48.true, c.run.ensures.1)
+    (c.run.ensures.0 ∙ number-run a.line.now a.at d c.if-nonzero.true, c.run.ensures.1)
 
 pub digit_at-requires-2 : goal.digit_at-requires-2
 digit_at-requires-2 c =
@@ -35,7 +35,7 @@ unfolding piece_at last_of
 returns-then-digit_at c =
     let a = c.args in
     let d = sym c.digit_at.ensures ∙ c.if-not-digit_at.false in
-    (number-lead a.line.now a.at d c.if-line-at-ne48.false (sym c.digit_at-2.ensures ∙ c.if-digit_at.true), search rules)
+    (number-lead a.line.now a.at d c.if-nonzero.false (sym c.digit_at-2.ensures ∙ c.if-digit_at.true), search rules)
 
 pub returns : goal.returns
 unfolding piece_at last_of
@@ -43,4 +43,4 @@ returns c =
     let a = c.args in
     let d = sym c.digit_at.ensures ∙ c.if-not-digit_at.false in
     let near = (digit-first a.line.now a.at d).0 in
-    (number-zero a.line.now a.at d c.if-line-at-ne48.false (sym c.digit_at-2.ensures ∙ c.if-digit_at.false), omega arith)
+    (number-zero a.line.now a.at d c.if-nonzero.false (sym c.digit_at-2.ensures ∙ c.if-digit_at.false), omega arith)

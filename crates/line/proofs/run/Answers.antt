@@ -21,11 +21,11 @@ overflow_add-next c =
     let d = digit-first c.args.line.now c.loop-next.i (sym c.digit_at.ensures ∙ c.loop-next-test.true) in
     omega (arith, c.wide.ensures, c.loop-next.invariant.1)
 
-pub returns-then-next-gt4294967295 : goal.returns-then-next-gt4294967295
+pub returns-then-too_large : goal.returns-then-too_large
 unfolding piece_at last_of
-returns-then-next-gt4294967295 c =
+returns-then-too_large c =
     let d = sym c.digit_at.ensures ∙ c.loop-next-test.true in
-    let past = rw c.wide.ensures at c.if-next-gt4294967295.true in
+    let past = rw c.wide.ensures at c.if-too_large.true in
     (run-over c.args.line.now c.loop-next.value c.loop-next.i _ d c.loop-next.invariant.2 (omega arith), search rules)
 
 pub overflow_add-i : goal.overflow_add-i
@@ -42,7 +42,7 @@ pub loop-next-preserved : goal.loop-next-preserved
 loop-next-preserved c =
     let d = sym c.digit_at.ensures ∙ c.loop-next-test.true in
     let near = (digit-first c.args.line.now c.loop-next.i d).0 in
-    (search rules, c.if-next-gt4294967295.false, rw c.wide.ensures (run_more c.args.line.now c.loop-next.value c.loop-next.i _ d c.loop-next.invariant.2 (rw c.wide.ensures at c.if-next-gt4294967295.false)))
+    (search rules, c.if-too_large.false, rw c.wide.ensures (run_more c.args.line.now c.loop-next.value c.loop-next.i _ d c.loop-next.invariant.2 (rw c.wide.ensures at c.if-too_large.false)))
 
 pub returns : goal.returns
 unfolding piece_at last_of

@@ -4,9 +4,9 @@ use borrow.Author.Tests.{eq-eqb, ne_eqb}
 use Rattle.scroll.specs.Scroll.{last_after}
 use Rattle.scroll.proofs.last_after.Goals as goal
 
-pub returns-then-bib-eq0 : goal.returns-then-bib-eq0
+pub returns-then-at_end : goal.returns-then-at_end
 unfolding last_after
-returns-then-bib-eq0 c = search (rules, eq-eqb)
+returns-then-at_end c = search (rules, eq-eqb)
 
 pub returns : goal.returns
 unfolding last_after

@@ -58,7 +58,7 @@ build-requires c =
 
 -- no refusal met
 sound : (q : After-needed-next) → (standing_at q.args.card.now q.args.at).code ≡ 0
-sound q = let same = (tally-is q.args.card.now q.args.at q.counted-t.result q.counted-t.ensures.0).0 in omega (arith, q.if-t-eq0.true)
+sound q = let same = (tally-is q.args.card.now q.args.at q.counted-t.result q.counted-t.ensures.0).0 in omega (arith, q.if-sound.true)
 
 pub returns-then-next-head : goal.returns-then-next-head
 returns-then-next-head c =
@@ -71,12 +71,12 @@ returns-then-next-head c =
     let f = heeds-yes (season_to a.head a.at a.target.now r) a.target.now _ p in
     record { value = f.answer; target_after = f.bytes }
 
-pub returns-then-t-eq0 : goal.returns-then-t-eq0
-returns-then-t-eq0 c =
-    let records = (goal.at.returns-then-t-eq0 c).After-counted-t in
+pub returns-then-sound : goal.returns-then-sound
+returns-then-sound c =
+    let records = (goal.at.returns-then-sound c).After-counted-t in
     let a = c.args in
     let r = standing_at a.card.now a.at in
-    let p = too_few a.head a.at a.target.now r (sym c.suits.ensures ∙ c.if-suits.true) (sym c.all_zero.ensures ∙ c.if-all_zero.true) (sound (goal.at.returns-then-t-eq0 c).After-needed-next) (omega (arith, quotas records)) _ (next (goal.at.returns-then-t-eq0 c).After-needed-next) (omega (arith, c.if-next-head.false)) in
+    let p = too_few a.head a.at a.target.now r (sym c.suits.ensures ∙ c.if-suits.true) (sym c.all_zero.ensures ∙ c.if-all_zero.true) (sound (goal.at.returns-then-sound c).After-needed-next) (omega (arith, quotas records)) _ (next (goal.at.returns-then-sound c).After-needed-next) (omega (arith, c.if-next-head.false)) in
     let f = heeds-no (season_to a.head a.at a.target.now r) a.target.now 6 p in
     record { value = f.answer; target_after = f.bytes }
 
@@ -84,7 +84,7 @@ pub returns-then-all_zero : goal.returns-then-all_zero
 returns-then-all_zero c =
     let a = c.args in
     let r = standing_at a.card.now a.at in
-    let bad : r.code ≡ 0 → ⊥ = λ z. c.if-t-eq0.false ((count (goal.at.returns-then-all_zero c).After-counted-t).0 ∙ z) in
+    let bad : r.code ≡ 0 → ⊥ = λ z. c.if-sound.false ((count (goal.at.returns-then-all_zero c).After-counted-t).0 ∙ z) in
     let f = heeds-no (season_to a.head a.at a.target.now r) a.target.now 4 (damaged a.head a.at a.target.now r (sym c.suits.ensures ∙ c.if-suits.true) (sym c.all_zero.ensures ∙ c.if-all_zero.true) bad) in
     record { value = f.answer; target_after = f.bytes }
 

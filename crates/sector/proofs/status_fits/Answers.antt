@@ -4,13 +4,13 @@ use borrow.Author.Tests.{eq-eqb, ne_eqb, le-leb, lt-leb}
 use Rattle.rules.specs.Sector.{status_fits}
 use Rattle.sector.proofs.status_fits.Goals as goal
 
-pub returns-then-status-eq0 : goal.returns-then-status-eq0
+pub returns-then-timed : goal.returns-then-timed
 unfolding status_fits
-returns-then-status-eq0 c = search (rules, eq-eqb, le-leb)
+returns-then-timed c = search (rules, eq-eqb, le-leb)
 
-pub returns-then-status-le3 : goal.returns-then-status-le3
+pub returns-then-in_table : goal.returns-then-in_table
 unfolding status_fits
-returns-then-status-le3 c = search (rules, eq-eqb, ne_eqb, le-leb)
+returns-then-in_table c = search (rules, eq-eqb, ne_eqb, le-leb)
 
 pub returns : goal.returns
 unfolding status_fits

@@ -22,12 +22,12 @@ one_more q =
 pub loop-i-init : goal.loop-i-init
 loop-i-init c = (search rules, search rules, from_start c.args.card.now c.args.to)
 
-pub returns-then-enough-top : goal.returns-then-enough-top
-returns-then-enough-top c =
+pub returns-then-seen : goal.returns-then-seen
+returns-then-seen c =
     let a = c.args in
     let l = c.loop-i in
     let some = from_less a.card.now a.from a.to (l.i - 1) (omega arith) (omega arith) in
-    (omega (arith, one_more (goal.at.returns-then-enough-top c).After-later-top), λ less. omega (arith, c.if-enough-top.true))
+    (omega (arith, one_more (goal.at.returns-then-seen c).After-later-top), λ less. omega (arith, c.if-seen.true))
 
 pub loop-i-preserved : goal.loop-i-preserved
 loop-i-preserved c = (search rules, search rules, one_more (goal.at.loop-i-preserved c).After-later-top)

@@ -7,10 +7,10 @@ use Rattle.rules.specs.Walk.{standing}
 use Rattle.scan.specs.Look.{told}
 use Rattle.walk.proofs.tell.Goals as goal
 
-pub returns-then-e-eq1 : goal.returns-then-e-eq1
+pub returns-then-posted : goal.returns-then-posted
 unfolding told sheet standing is_post
-returns-then-e-eq1 c =
-    rw (c.in-Hit.is, eq-eqb c.in-Hit.e.kind 1 (omega (arith, c.if-e-eq1.true)))
+returns-then-posted c =
+    rw (c.in-Hit.is, eq-eqb c.in-Hit.e.kind 1 (omega (arith, c.if-posted.true)))
 
 pub returns-in-Damage : goal.returns-in-Damage
 unfolding told
@@ -20,6 +20,6 @@ pub returns-in-Nothing : goal.returns-in-Nothing
 unfolding told sheet
 returns-in-Nothing c = rw c.in-Nothing.is
 
-pub returns-else-e-eq1 : goal.returns-else-e-eq1
+pub returns-else-posted : goal.returns-else-posted
 unfolding told sheet standing is_post
-returns-else-e-eq1 c = rw (c.in-Hit.is, ne_eqb _ _ c.if-e-eq1.false)
+returns-else-posted c = rw (c.in-Hit.is, ne_eqb _ _ c.if-posted.false)

@@ -12,10 +12,10 @@ pub returns-then-kind-eq1-2 : goal.returns-then-kind-eq1-2
 unfolding code_of
 returns-then-kind-eq1-2 c = rw (c.in-Hit.is, eq-eqb _ _ c.if-kind-eq1-2.true)
 
-pub returns-then-e-eq1 : goal.returns-then-e-eq1
+pub returns-then-posted : goal.returns-then-posted
 unfolding code_of
-returns-then-e-eq1 c =
-    rw (c.in-Hit.is, ne_eqb _ _ c.if-kind-eq1-2.false, eq-eqb c.in-Hit.e.kind 1 (omega (arith, c.if-e-eq1.true)))
+returns-then-posted c =
+    rw (c.in-Hit.is, ne_eqb _ _ c.if-kind-eq1-2.false, eq-eqb c.in-Hit.e.kind 1 (omega (arith, c.if-posted.true)))
 
 pub returns-in-Damage : goal.returns-in-Damage
 unfolding code_of
@@ -25,7 +25,7 @@ pub returns-else-kind-eq1 : goal.returns-else-kind-eq1
 unfolding code_of
 returns-else-kind-eq1 c = rw (c.in-Nothing.is, ne_eqb _ _ c.if-kind-eq1.false)
 
-pub returns-else-e-eq1 : goal.returns-else-e-eq1
+pub returns-else-posted : goal.returns-else-posted
 unfolding code_of
-returns-else-e-eq1 c =
-    rw (c.in-Hit.is, ne_eqb _ _ c.if-kind-eq1-2.false, ne_eqb _ _ c.if-e-eq1.false)
+returns-else-posted c =
+    rw (c.in-Hit.is, ne_eqb _ _ c.if-kind-eq1-2.false, ne_eqb _ _ c.if-posted.false)

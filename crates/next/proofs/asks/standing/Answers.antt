@@ -25,17 +25,17 @@ loop-e-smaller c = let up = rises (goal.at.loop-e-smaller c).After-key_of-x in o
 pub loop-e-preserved : goal.loop-e-preserved
 unfolding is_post
 loop-e-preserved c =
-    let again = strike-next is_data (sectors c.args.n c.args.part.now 0 c.args.m) c.requires.2 c.loop-e.x c.args.t _ _ c.least-found.ensures c.in-Hit.is (ne_eqb _ _ c.if-e-eq1.false) in
+    let again = strike-next is_data (sectors c.args.n c.args.part.now 0 c.args.m) c.requires.2 c.loop-e.x c.args.t _ _ c.least-found.ensures c.in-Hit.is (ne_eqb _ _ c.if-posted.false) in
     (c.key_of-x.ensures.1, rw c.key_of-x.ensures.0 (sym again ∙ c.loop-e.invariant.1))
 
 pub returns-in_default : goal.returns-in_default
 returns-in_default c =
     none-next is_data (sectors c.args.n c.args.part.now 0 c.args.m) c.requires.2 c.loop-e.x c.args.t _ c.least-found.ensures (opened c.in_default.in_default-own.keys2) ∙ c.loop-e.invariant.1
 
-pub returns-then-e-eq1 : goal.returns-then-e-eq1
+pub returns-then-posted : goal.returns-then-posted
 unfolding is_post
-returns-then-e-eq1 c =
-    post-next is_data (sectors c.args.n c.args.part.now 0 c.args.m) c.requires.2 c.loop-e.x c.args.t _ _ c.least-found.ensures c.in-Hit.is (eq-eqb _ _ c.if-e-eq1.true) ∙ c.loop-e.invariant.1
+returns-then-posted c =
+    post-next is_data (sectors c.args.n c.args.part.now 0 c.args.m) c.requires.2 c.loop-e.x c.args.t _ _ c.least-found.ensures c.in-Hit.is (eq-eqb _ _ c.if-posted.true) ∙ c.loop-e.invariant.1
 
 pub loop-e-init : goal.loop-e-init
 loop-e-init c = (search rules, refl)

@@ -9,14 +9,14 @@ unfolding rank_above
 returns-then-x-e c =
     let a = c.args in
     let key = c.wide-key.ensures in
-    (rw (le-leb a.e.stamp a.t (omega (arith, c.if-e-t.true)), lt-ltb a.x a.e.key (omega (arith, c.if-x-e.true)), key.0), omega arith)
+    (rw (le-leb a.e.stamp a.t (omega (arith, c.if-in_time.true)), lt-ltb a.x a.e.key (omega (arith, c.if-x-e.true)), key.0), omega arith)
 
 pub returns-else-x-e : goal.returns-else-x-e
 unfolding rank_above
 returns-else-x-e c =
     let key = c.wide-key.ensures in
-    (rw (le-leb _ _ c.if-e-t.true, le-ltb _ _ c.if-x-e.false), omega arith)
+    (rw (le-leb _ _ c.if-in_time.true, le-ltb _ _ c.if-x-e.false), omega arith)
 
-pub returns-else-e-t : goal.returns-else-e-t
+pub returns-else-in_time : goal.returns-else-in_time
 unfolding rank_above
-returns-else-e-t c = let key = c.wide-key.ensures in (rw (lt-leb _ _ c.if-e-t.false), omega arith)
+returns-else-in_time c = let key = c.wide-key.ensures in (rw (lt-leb _ _ c.if-in_time.false), omega arith)

@@ -58,19 +58,19 @@ over-up-requires c =
     let k = fits-at (goal.at.over-up-requires c).At-loop-head in
     (omega (arith, c.requires), omega (arith, c.requires, c.requires.0.lim.m32), omega (arith, c.requires.0.lim.n4096))
 
-pub returns-then-up-lt2 : goal.returns-then-up-lt2
-returns-then-up-lt2 c =
+pub returns-then-top : goal.returns-then-top
+returns-then-top c =
     let up = c.over-up.ensures in
-    let made = made_at (goal.at.returns-then-up-lt2 c).After-raise in
+    let made = made_at (goal.at.returns-then-top c).After-raise in
     let l = c.loop-head in
     let a = c.args in
-    rest_end a.head a.stamp a.q l.b l.c _ l.target c.requires.1 l.invariant.1 l.invariant.3 _ made (omega (arith, c.if-up-lt2.true))
+    rest_end a.head a.stamp a.q l.b l.c _ l.target c.requires.1 l.invariant.1 l.invariant.3 _ made (omega (arith, c.if-top.true))
 
 pub loop-head-smaller : goal.loop-head-smaller
 loop-head-smaller c =
     let up = c.over-up.ensures in
     let l = c.loop-head in
-    let k = over-less c.args.q l.c c.requires.1 (omega (arith, c.if-up-lt2.false)) in
+    let k = over-less c.args.q l.c c.requires.1 (omega (arith, c.if-top.false)) in
     omega arith
 
 pub loop-head-preserved : goal.loop-head-preserved
@@ -80,7 +80,7 @@ loop-head-preserved c =
     let l = c.loop-head in
     let a = c.args in (
       omega (arith, l.invariant),
-      omega (arith, c.if-up-lt2.false),
+      omega (arith, c.if-top.false),
       search rules,
-      rw up (rest_more a.head a.stamp a.q l.b l.c _ l.target c.requires.1 l.invariant.1 l.invariant.3 _ made (omega (arith, c.if-up-lt2.false))),
+      rw up (rest_more a.head a.stamp a.q l.b l.c _ l.target c.requires.1 l.invariant.1 l.invariant.3 _ made (omega (arith, c.if-top.false))),
     )
