@@ -1,4 +1,4 @@
-// The bench program for its main in C, which alone can end with a status.
+// The bench program for its main in C, which returns the status answered here.
 #![tactic(auto)]
 
 ghost use Rattle.std.specs.Prelude.{◌≤◌};
