@@ -22,10 +22,9 @@ for-two q =
 -- they are in it
 laid : (q : After-write_sent) →
     let a = q.args in
-    q.write_sent.new.card ≡ into a.head a.fresh (sent_list a.p) a.card.now
-laid q =
+    (a.fresh ≤ a.head.n) × (length (sent_list a.p) ≡ 2) → q.write_sent.new.card ≡ into a.head a.fresh (sent_list a.p) a.card.now
+laid q two =
     let rd = q.requires.ready.0 in
-    let two = (let at-once : let a = q.args in (a.fresh ≤ a.head.n) × (length (sent_list a.p) ≡ 2) = let a = q.args in let cap = rw (root-two a.head a.stamp a.p a.fresh a.card.now q.if-p.true) at q.requires.card_bound in (omega arith, rw q.if-p.true) in at-once) in
     q.write_sent.ensures
     ∙ sym (into-puts _ _ _ [] _ _ (rd.free _ (omega arith) two.0) (omega (arith, rd.shape.lim.m4)) (omega (arith, q.first_sector-at.ensures)))
 
@@ -49,7 +48,7 @@ pub write_log-requires : goal.write_log-requires
 write_log-requires c =
     let a = c.args in
     let filled = ready-into a.head a.card.now [] a.fresh (sent_list a.p) c.requires.ready.0 (for-two (goal.at.write_log-requires c).Then-p).0 in
-    rw (laid (goal.at.write_log-requires c).After-write_sent) (filled.shape, filled.logs)
+    rw (laid (goal.at.write_log-requires c).After-write_sent (for-two (goal.at.write_log-requires c).Then-p)) (filled.shape, filled.logs)
 
 pub write_log-requires-else-p : goal.write_log-requires-else-p
 write_log-requires-else-p c =
@@ -58,7 +57,7 @@ write_log-requires-else-p c =
 pub returns-then-p : goal.returns-then-p
 returns-then-p c =
     let a = c.args in
-    rw (root-two a.head a.stamp a.p a.fresh a.card.now c.if-p.true, ← laid (goal.at.returns-then-p c).After-write_sent) c.write_log.ensures
+    rw (root-two a.head a.stamp a.p a.fresh a.card.now c.if-p.true, ← laid (goal.at.returns-then-p c).After-write_sent (for-two (goal.at.returns-then-p c).Then-p)) c.write_log.ensures
 
 pub returns-else-p : goal.returns-else-p
 returns-else-p c =

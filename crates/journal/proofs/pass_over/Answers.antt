@@ -1,40 +1,37 @@
 -- `journal::pass_over`: what is left from sector i on, with the stamp and the place kept, gives what the whole pass gives.
 use borrow.Author.Rules.{rules}
-use Prim.Native.Nat.{◌-◌, ◌+◌}
+use Prim.Native.Nat.{ℕ, ◌-◌, ◌+◌, ◌<◌}
 use mathlib.Core.Path.{◌≡◌, ap, sym, ◌∙◌}
 use mathlib.Core.Bool.{false}
-use mathlib.Core.List.{◌∷◌}
+use mathlib.Core.List.{List, ◌∷◌}
 use native.Mathlib.Nat.{sub-zero}
 use native.Mathlib.Omega.{arith}
+use Rattle.rules.specs.declared.Sector.{Sector}
 use Rattle.rules.specs.Plain.{if}
+use Rattle.rules.specs.Sector.{decode, sector_at}
 use Rattle.scan.specs.declared.Found.{Found}
 use Rattle.scan.specs.declared.Found.TheVariants.{Nothing}
 use Rattle.scan.specs.Scan.{sectors, pick}
 use Rattle.scan.proofs.Loops.{sectors-turn, sectors-end}
 use Rattle.bucket.specs.Places.{found_at}
 use Rattle.bucket.proofs.Places.{place-le}
+use Rattle.journal.specs.declared.Reading.{Reading}
 use Rattle.journal.specs.declared.Reading.TheVariants.{Broken, Sound}
 use Rattle.journal.specs.Passes.{pass, passed, risen, read_scan}
 use Rattle.journal.proofs.Turns.{read-damaged, read-blank, read_held, copy-place}
 use borrow.Enum.Refused.{opened}
 use Rattle.journal.proofs.pass_over.Goals as goal
-use Rattle.journal.proofs.pass_over.Goals.{After-at-s, After-blank_behind, After-follows}
+use Rattle.journal.proofs.pass_over.Goals.{After-blank_behind, After-follows}
 
 pub loop-i-init : goal.loop-i-init
 unfolding found_at
 loop-i-init c = (search rules, search rules, rw sub-zero)
 
--- what the sector read says of the whole pass
-turn_at : (q : After-at-s) →
-    let a = q.args in
-    let l = q.loop-i in
-    read_scan a.x a.t (q.at-s.result ∷ sectors 0 a.slice.now (l.i + 1) (a.count - (l.i + 1))) l.i l.last (found_at a.slice.now l.hit)
-    ≡ read_scan a.x a.t (sectors 0 a.slice.now 0 a.count) 0 0 Nothing
-turn_at q =
-    let a = q.args in
-    let l = q.loop-i in
-    sectors-turn (λ ss. read_scan a.x a.t ss l.i l.last (found_at a.slice.now l.hit)) 0 a.count l.i a.slice.now _ _
-    (omega (arith, l.invariant.0, q.if-i-count.false)) q.at-s.ensures l.invariant.2
+-- what the sector read says of the whole pass, whose answer is w
+turned : (x t count i last hit : ℕ) (slice : List ℕ) (s : Sector) (w : Reading) → i < count → s ≡ decode 0 (sector_at slice i)
+    → read_scan x t (sectors 0 slice i (count - i)) i last (found_at slice hit) ≡ w
+    → read_scan x t (s ∷ sectors 0 slice (i + 1) (count - (i + 1))) i last (found_at slice hit) ≡ w
+turned x t count i last hit slice = sectors-turn (λ ss. read_scan x t ss i last (found_at slice hit)) 0 count i slice
 
 -- what the entry in it says, by whether it may follow
 held_at : (q : After-follows) →
@@ -44,7 +41,7 @@ held_at : (q : After-follows) →
     if q.follows.result (read_scan a.x a.t (sectors 0 a.slice.now (l.i + 1) (a.count - (l.i + 1))) (l.i + 1) e.stamp (pick false a.x a.t (found_at a.slice.now l.hit) e)) Broken
     ≡ read_scan a.x a.t (sectors 0 a.slice.now 0 a.count) 0 0 Nothing
 held_at q =
-    read_held _ _ _ _ _ _ _ _ _ q.in-Held.is q.follows.ensures ∙ (let at-once : let a = q.args in let l = q.loop-i in read_scan a.x a.t (q.at-s.result ∷ sectors 0 a.slice.now (l.i + 1) (a.count - (l.i + 1))) l.i l.last (found_at a.slice.now l.hit) ≡ read_scan a.x a.t (sectors 0 a.slice.now 0 a.count) 0 0 Nothing = let a = q.args in let l = q.loop-i in sectors-turn (λ ss. read_scan a.x a.t ss l.i l.last (found_at a.slice.now l.hit)) 0 a.count l.i a.slice.now _ _ (omega (arith, l.invariant.0, q.if-i-count.false)) q.at-s.ensures l.invariant.2 in at-once)
+    read_held _ _ _ _ _ _ _ _ _ q.in-Held.is q.follows.ensures ∙ turned _ _ _ _ _ _ _ _ _ (omega (arith, q.loop-i.invariant.0, q.if-i-count.false)) q.at-s.ensures q.loop-i.invariant.2
 
 pub loop-i-preserved : goal.loop-i-preserved
 loop-i-preserved c =
@@ -63,7 +60,7 @@ blank-at : (q : After-blank_behind) →
     let l = q.loop-i in
     if q.blank_behind.result (Sound (pass l.i l.last (found_at a.slice.now l.hit))) Broken ≡ read_scan a.x a.t (sectors 0 a.slice.now 0 a.count) 0 0 Nothing
 blank-at q =
-    read-blank _ _ _ _ _ _ _ _ q.in-Blank.is q.blank_behind.ensures ∙ (let at-once : let a = q.args in let l = q.loop-i in read_scan a.x a.t (q.at-s.result ∷ sectors 0 a.slice.now (l.i + 1) (a.count - (l.i + 1))) l.i l.last (found_at a.slice.now l.hit) ≡ read_scan a.x a.t (sectors 0 a.slice.now 0 a.count) 0 0 Nothing = let a = q.args in let l = q.loop-i in sectors-turn (λ ss. read_scan a.x a.t ss l.i l.last (found_at a.slice.now l.hit)) 0 a.count l.i a.slice.now _ _ (omega (arith, l.invariant.0, q.if-i-count.false)) q.at-s.ensures l.invariant.2 in at-once)
+    read-blank _ _ _ _ _ _ _ _ q.in-Blank.is q.blank_behind.ensures ∙ turned _ _ _ _ _ _ _ _ _ (omega (arith, q.loop-i.invariant.0, q.if-i-count.false)) q.at-s.ensures q.loop-i.invariant.2
 
 pub returns-then-i-count : goal.returns-then-i-count
 unfolding read_scan risen passed
@@ -74,7 +71,7 @@ returns-then-i-count c =
     ∙ (rw (sectors-end 0 a.count l.i a.slice.now (omega (arith, c.if-i-count.true))) at l.invariant.2)
 
 pub returns-in_default-s : goal.returns-in_default-s
-returns-in_default-s c = read-damaged _ _ _ _ _ _ _ (opened c.in_default.in_default-own.keys2) (opened c.in_default-s.in_default-s-own.keys2) ∙ turn_at (goal.at.returns-in_default-s c).After-at-s
+returns-in_default-s c = read-damaged _ _ _ _ _ _ _ (opened c.in_default.in_default-own.keys2) (opened c.in_default-s.in_default-s-own.keys2) ∙ turned _ _ _ _ _ _ _ _ _ (omega (arith, c.loop-i.invariant.0, c.if-i-count.false)) c.at-s.ensures c.loop-i.invariant.2
 
 pub returns-then-blank_behind : goal.returns-then-blank_behind
 returns-then-blank_behind c =

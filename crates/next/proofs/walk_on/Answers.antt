@@ -39,7 +39,8 @@ rise-at : (q : After-key_of-x) →
 rise-at q =
     let a = q.args in
     rw q.key_of-x.ensures.0
-    (round-rises a.head a.card.now a.k a.t q.loop-e.x _ _ _ ((let at-once : let a = q.args in q.walk_to-leg.result ≡ leg a.head a.card.now a.k a.t q.loop-e.x = leg-root q.args.head q.args.card.now q.args.k q.args.t q.loop-e.x _ _ q.requires.n_value q.walk_to-leg.ensures in at-once)) q.in-Over.is q.in-Hit.is)
+    (round-rises a.head a.card.now a.k a.t q.loop-e.x _ _ _
+    (leg-root a.head a.card.now a.k a.t q.loop-e.x _ _ q.requires.n_value q.walk_to-leg.ensures) q.in-Over.is q.in-Hit.is)
 
 pub returns-in-Gone : goal.returns-in-Gone
 unfolding after
