@@ -2,7 +2,7 @@
 use mathlib.Core.Path.{◌≡◌, refl, ap, sym, ◌∙◌}
 use mathlib.Core.Logic.{⊎_elim}
 use mathlib.Core.Bool.{Bool, true, false, not}
-use mathlib.Core.Option.{Option, none, some}
+use Rattle.std.specs.Prelude.{Option, None, Some}
 use mathlib.Core.List.{List, [], ◌∷◌, ◌++◌, append-nil}
 use Prim.Native.Nat.{ℕ, zero, suc, ◌+◌, ◌-◌, ◌*◌, ◌/◌, ◌%◌, ◌≤◌, ◌<◌}
 use native.Mathlib.Omega.{arith}
@@ -50,7 +50,7 @@ module _ (r : List ℕ) where
     no_kind n m = rw (z, ne_eqb (fields r).kind 1 n, ne_eqb (fields r).kind 2 m)
 
 -- a refusal leaves the card, and what is known of it
-pub stays : (h : Head) (card : List ℕ) (p : Plan) (c : ℕ) (k : Known) → head_of card ≡ some h → Knows h card k → p ≡ refuse c
+pub stays : (h : Head) (card : List ℕ) (p : Plan) (c : ℕ) (k : Known) → head_of card ≡ Some h → Knows h card k → p ≡ refuse c
     → Took (record { code = c; known = k }) h card card p
 unfolding plan_answer plan_card refused
 stays h card p c k hq kn q = record { code = sym (ap (λ (y : Plan). (plan_answer y).code) q); bytes = sym (ap (plan_card card) q); head = hq; knows = kn }
@@ -61,7 +61,7 @@ took-same h card after p q c k e t =
     record { code = t.code ∙ sym (ap (λ (y : Plan). (plan_answer y).code) e); bytes = t.bytes ∙ sym (ap (plan_card card) e); head = t.head; knows = t.knows }
 
 -- an entry that was laid down, or refused from the walk on
-module _ (h : Head) (card : List ℕ) (hq : head_of card ≡ some h) (by : Bytes card) (e : Entry) (asks : Asks e) (k : Known) (kn : Knows h card k)
+module _ (h : Head) (card : List ℕ) (hq : head_of card ≡ Some h) (by : Bytes card) (e : Entry) (asks : Asks e) (k : Known) (kn : Knows h card k)
     (r : Entered) (after : List ℕ) (d : Did r h card after (plan card e)) where
   by-plan : (p : Plan) → plan card e ≡ p → Numbered p → Did r h card after p
       → (r.code ≡ 0 → Took (record { code = 0; known = record { stamp = e.stamp; used = r.used; root = r.root } }) h card after p)
@@ -118,13 +118,13 @@ unfolding requests_in
 none_left requests i count q = let z : count - i ≡ 0 = omega arith in rw z
 
 -- on what is no card the requests change nothing, and each is answered with 1
-pub card-none : (card requests : List ℕ) (i c : ℕ) → head_of card ≡ none → card_of card (requests_in requests i c) ≡ card
+pub card-none : (card requests : List ℕ) (i c : ℕ) → head_of card ≡ None → card_of card (requests_in requests i c) ≡ card
 unfolding card_of requests_in plan_card
 card-none card requests i zero q = refl
 card-none card requests i (suc c) q =
     ap (λ (p : Plan). card_of (plan_card card p) (requests_in requests (suc i) c)) (no-card card (sector_at requests i) q) ∙ card-none card requests (suc i) c q
 
-pub answers-none : (card requests : List ℕ) (i c : ℕ) → head_of card ≡ none → answers_to card (requests_in requests i c) ≡ replicate c 1
+pub answers-none : (card requests : List ℕ) (i c : ℕ) → head_of card ≡ None → answers_to card (requests_in requests i c) ≡ replicate c 1
 unfolding answers_to requests_in plan_card plan_answer refused
 answers-none card requests i zero q = refl
 answers-none card requests i (suc c) q =
@@ -141,8 +141,8 @@ by-request Q card r one eleven p = go (head_of card)
     by-well false = eleven
 
     go : (o : Option Head) → Q (request_for card r o)
-    go none = one
-    go (some h) = by-well (well_asked r)
+    go None = one
+    go (Some h) = by-well (well_asked r)
 
 -- so that every answer is a byte, and 0 is acceptance
 pub request-small : (card r : List ℕ) → (plan_answer (request card r)).code < 256
@@ -153,14 +153,14 @@ request-numbered : (card r : List ℕ) → Numbered (request card r)
 request-numbered card r = by-request Numbered card r (λ z. omega arith) (λ z. omega arith) (plan-numbered card (fields r))
 
 -- one that is accepted was asked well
-accepted-well : (card r : List ℕ) (h : Head) → head_of card ≡ some h → (new : List ℕ) → request card r ≡ accept new → well_asked r ≡ true
+accepted-well : (card r : List ℕ) (h : Head) → head_of card ≡ Some h → (new : List ℕ) → request card r ≡ accept new → well_asked r ≡ true
 accepted-well card r h hq new q =
     ⊎_elim (λ (w : well_asked r ≡ true). w) (λ (w : well_asked r ≡ false). absurd (no-accept 11 new (sym (ill-asked card r h hq w) ∙ q))) (bool_cases (well_asked r))
 
 -- after the first request
-module _ (h : Head) (card : List ℕ) (hq : head_of card ≡ some h) (by : Bytes card) (s : List ℕ) (bs : Bytes s) (r : Entered) (after : List ℕ) (b : Began r h card after (request card s)) where
+module _ (h : Head) (card : List ℕ) (hq : head_of card ≡ Some h) (by : Bytes card) (s : List ℕ) (bs : Bytes s) (r : Entered) (after : List ℕ) (b : Began r h card after (request card s)) where
   begun : (p : Plan) → request card s ≡ p → Numbered p → after ≡ plan_card card p → r.code ≡ (plan_answer p).code
-      → (head_of after ≡ some h) × (r.code ≡ 0 → stamp_on h after ≡ (fields s).stamp)
+      → (head_of after ≡ Some h) × (r.code ≡ 0 → stamp_on h after ≡ (fields s).stamp)
   unfolding plan_card plan_answer refused
   begun (refuse c) q n is code = (rw is hq, λ z. absurd (n (sym code ∙ z)))
   begun (accept new) q n is code =
@@ -169,10 +169,10 @@ module _ (h : Head) (card : List ℕ) (hq : head_of card ≡ some h) (by : Bytes
       let p = sym (asked card s h hq w) ∙ q in
       (rw is (head-after h card hq by (fields s) asks new p), λ z. rw is (stamp-after h card hq by (fields s) asks new p))
 
-  both : (head_of after ≡ some h) × (r.code ≡ 0 → stamp_on h after ≡ (fields s).stamp)
+  both : (head_of after ≡ Some h) × (r.code ≡ 0 → stamp_on h after ≡ (fields s).stamp)
   both = begun (request card s) refl (request-numbered card s) b.bytes b.code
 
-  pub first_head : head_of after ≡ some h
+  pub first_head : head_of after ≡ Some h
   first_head = both.0
 
   pub first-knows : (at : ℕ) → at ≡ (fields s).stamp → r.code ≡ 0 → Knows h after (record { stamp = at; used = r.used; root = r.root })

@@ -1,6 +1,6 @@
 -- What a batch carries from request to request.
 use Rattle.std.specs.Prelude.{ℕ, ◌≡◌, List}
-use Rattle.std.proofs.Math.Option.{some}
+use Rattle.std.specs.Prelude.{Some}
 use Rattle.rules.specs.declared.Head.{Head}
 use Rattle.rules.specs.Layout.{head_of}
 use Rattle.rules.specs.Write.{Plan, plan_answer, plan_card, stamp_on, top_used}
@@ -18,5 +18,5 @@ pub record Knows (h : Head) (card : List ℕ) (k : Known) : Type 0 where
 pub record Took (r : Carried) (h : Head) (card after : List ℕ) (p : Plan) : Type 0 where
   pub code : r.code ≡ (plan_answer p).code
   pub bytes : after ≡ plan_card card p
-  pub head : head_of after ≡ some h
+  pub head : head_of after ≡ Some h
   pub knows : Knows h after r.known

@@ -3,7 +3,7 @@
 #![tactic(auto)]
 
 ghost use Rattle.std.specs.Prelude.{◌≡◌, ◌+◌, ◌-◌, ◌*◌, ◌/◌, ◌%◌, ◌≤◌, eqb, ◌++◌, length, take, replicate};
-ghost use Rattle.std.proofs.Math.Option.{some};
+ghost use Rattle.std.specs.Prelude.{Some};
 ghost use Rattle.rules.specs.Plain.{◌&◌};
 ghost use Rattle.rules.specs.Sector.{sector_at};
 ghost use Rattle.rules.specs.Layout.{head_of};
@@ -34,7 +34,7 @@ pub struct Carried {
 
 // An entry as its call is answered. A refused one leaves the card, and so what is known of it.
 fn enter(card: &mut [u8], head: Head, e: Entry, known: Known) -> Carried
-    requires { (head_of card.old ≡ some head) × Asks e × Knows head card.old known }
+    requires { (head_of card.old ≡ Some head) × Asks e × Knows head card.old known }
     ensures { Took result head card.old card.new (plan card.old e) }
 {
     let flaw = sector::flaw_of(e);
@@ -91,7 +91,7 @@ fn well_asked(requests: &[u8], i: usize) -> bool
 
 // Request i: 11, or as its call.
 fn answer_to(card: &mut [u8], head: Head, requests: &[u8], i: usize, known: Known) -> Carried
-    requires { (head_of card.old ≡ some head) × Knows head card.old known × (16 * i + 16 ≤ length requests.now) }
+    requires { (head_of card.old ≡ Some head) × Knows head card.old known × (16 * i + 16 ≤ length requests.now) }
     ensures { Took result head card.old card.new (request card.old (sector_at requests.now i)) }
 {
     if well_asked(requests, i) {
@@ -103,7 +103,7 @@ fn answer_to(card: &mut [u8], head: Head, requests: &[u8], i: usize, known: Know
 
 // The first request asks of the card's stamps only whether its own comes too late, as a single call does.
 fn begin(card: &mut [u8], head: Head, requests: &[u8]) -> Entered
-    requires { (head_of card.old ≡ some head) × (16 ≤ length requests.now) }
+    requires { (head_of card.old ≡ Some head) × (16 ≤ length requests.now) }
     ensures { Began result head card.old card.new (request card.old (sector_at requests.now 0)) }
 {
     if well_asked(requests, 0) {
@@ -119,7 +119,7 @@ fn begin(card: &mut [u8], head: Head, requests: &[u8]) -> Entered
 
 // What is known after the first request, stamped `at`: what it told, or where it was refused what the card says, looked through once.
 fn known_after(card: &[u8], head: Head, first: Entered, at: u32) -> Known
-    requires { (head_of card.now ≡ some head) × (first.code ≡ 0 → Knows head card.now (record { stamp = at; used = first.used; root = first.root })) }
+    requires { (head_of card.now ≡ Some head) × (first.code ≡ 0 → Knows head card.now (record { stamp = at; used = first.used; root = first.root })) }
     ensures { Knows head card.now result }
 {
     if first.code == 0 {
@@ -139,7 +139,7 @@ fn known_after(card: &[u8], head: Head, first: Entered, at: u32) -> Known
 
 // The requests behind the first, one after the other; none of them stops the batch.
 fn load(card: &mut [u8], head: Head, requests: &[u8], answers: &mut [u8], first: Known)
-    requires { (head_of card.old ≡ some head) × Knows head card.old first × (length requests.now ≡ 16 * length answers.old) × (1 ≤ length answers.old) }
+    requires { (head_of card.old ≡ Some head) × Knows head card.old first × (length requests.now ≡ 16 * length answers.old) × (1 ≤ length answers.old) }
     ensures card_after { card.new ≡ card_of card.old (requests_in requests.now 1 (length answers.old - 1)) }
     ensures answers_after { answers.new ≡ take 1 answers.old ++ answers_to card.old (requests_in requests.now 1 (length answers.old - 1)) }
 {
@@ -155,7 +155,7 @@ fn load(card: &mut [u8], head: Head, requests: &[u8], answers: &mut [u8], first:
 
 // All requests. The first is answered by itself, so that a batch of one costs what its call does.
 fn answer_all(card: &mut [u8], head: Head, requests: &[u8], answers: &mut [u8])
-    requires { (head_of card.old ≡ some head) × (length requests.now ≡ 16 * length answers.old) }
+    requires { (head_of card.old ≡ Some head) × (length requests.now ≡ 16 * length answers.old) }
     ensures card_after { card.new ≡ card_of card.old (requests_in requests.now 0 (length answers.old)) }
     ensures answers_after { answers.new ≡ answers_to card.old (requests_in requests.now 0 (length answers.old)) }
 {

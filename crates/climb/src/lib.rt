@@ -2,7 +2,7 @@
 #![tactic(auto)]
 
 ghost use Rattle.std.specs.Prelude.{◌≡◌, List, [], ◌∷◌, ◌+◌, ◌-◌, ◌*◌, ◌≤◌, ◌<◌, length, drop};
-ghost use Rattle.std.proofs.Math.Option.{some};
+ghost use Rattle.std.specs.Prelude.{Some};
 ghost use Rattle.std.proofs.Math.Seq.{slice};
 ghost use Rattle.rules.specs.declared.Entry.{Entry};
 ghost use Rattle.rules.specs.Sector.{root_entry};
@@ -149,7 +149,7 @@ pub fn count(
 
 // Entries from..to of the hand fill the fresh bucket b.
 fn write_new(card: &mut [u8], head: Head, b: usize, h: Hand, from: usize, to: usize)
-    requires shape { Shape head card.old × (1 ≤ b) × (b ≤ head.n) × (raw head card.old b ≡ some []) }
+    requires shape { Shape head card.old × (1 ≤ b) × (b ≤ head.n) × (raw head card.old b ≡ Some []) }
     requires from_le_to { (from ≤ to) × (to ≤ 34) × (to - from ≤ head.m) × (length h.entries ≡ 34) × AllSmall (slice from to h.entries) }
     ensures { card.new ≡ into head b (slice from to h.entries) card.old }
 {
@@ -206,7 +206,7 @@ pub fn write_in(card: &mut [u8], head: Head, b: u32, used: usize, p: Sent)
 
 // A new root's entry, at the first blank of the log.
 fn write_log(card: &mut [u8], head: Head, root: u32, stamp: u32)
-    requires { Shape head card.old × ((es : List Entry) × (log head card.old ≡ some es)) }
+    requires { Shape head card.old × ((es : List Entry) × (log head card.old ≡ Some es)) }
     ensures { card.new ≡ fill card.old (log_blanks head card.old) (root_entry stamp root ∷ []) }
 {
     let n = head.n;

@@ -1,7 +1,7 @@
 -- What format puts at the first blanks of a blank card, sector by sector.
 use mathlib.Core.Path.{◌≡◌, refl, ap, ◌∙◌}
 use mathlib.Core.Bool.{true, false}
-use mathlib.Core.Option.{some}
+use Rattle.std.specs.Prelude.{Some}
 use mathlib.Core.List.{List, [], ◌∷◌}
 use Prim.Native.Nat.{ℕ, zero, suc, ◌+◌, ◌-◌, ◌*◌, ◌≤◌}
 use native.Mathlib.Nat.{mul-add, mul-le-mul_right, mul-one}
@@ -73,10 +73,10 @@ module _ (h : Head) (card : List ℕ) (li : limits h ≡ true) (size : length ca
   unfolding base
   bucket-two = let z : h.m * (2 - 1) ≡ h.m = mul-one h.m in omega arith
 
-  first-blank : raw h rooted 1 ≡ some []
+  first-blank : raw h rooted 1 ≡ Some []
   first-blank = run-blank h.n rooted (base h 1) h.m (λ j p q. front-blank j (let b = first-base h in let n = lim.n2 in omega arith))
 
-  second-blank : raw h indexed 2 ≡ some []
+  second-blank : raw h indexed 2 ≡ Some []
   second-blank =
       run-blank h.n indexed (base h 2) h.m
       (λ j p q.
@@ -88,7 +88,7 @@ module _ (h : Head) (card : List ℕ) (li : limits h ≡ true) (size : length ca
       ∙ front-blank j (omega arith))
 
   -- one entry into a blank bucket
-  into-first : (c : List ℕ) (b at : ℕ) (e : Entry) → raw h c b ≡ some [] → base h b ≡ at → into h b (e ∷ []) c ≡ put c at (encode e)
+  into-first : (c : List ℕ) (b at : ℕ) (e : Entry) → raw h c b ≡ Some [] → base h b ≡ at → into h b (e ∷ []) c ≡ put c at (encode e)
   into-first c b at e q is =
       let k = lim.m4 in
       into-puts h c b [] (e ∷ []) at q (omega arith) (omega arith)

@@ -2,7 +2,7 @@
 use mathlib.Core.Path.{◌≡◌, refl, ap, ap₂, sym, ◌∙◌, subst}
 use mathlib.Core.Logic.{⊎_elim}
 use mathlib.Core.Bool.{Bool, true, false}
-use mathlib.Core.Option.{Option, none, some}
+use Rattle.std.specs.Prelude.{Option, None, Some}
 use Prim.Native.Nat.{ℕ, suc, ◌+◌, ◌*◌, ◌≤◌, ◌<◌}
 use native.Mathlib.Omega.{arith}
 use mathlib.Core.List.{List, [], ◌∷◌, ◌++◌, append-nil}
@@ -35,15 +35,15 @@ puts-append : (buffer : List ℕ) (k : ℕ) (xs ys : List Entry) → puts buffer
 puts-append buffer k [] ys = let z : k + 0 ≡ k = omega arith in rw z
 puts-append buffer k (x ∷ xs) ys = let z : k + suc (length xs) ≡ k + 1 + length xs = omega arith in rw z (puts-append (put buffer k (encode x)) (k + 1) xs ys)
 
-fit_is : (places k : ℕ) (es : List Entry) → k + length es ≤ places → fit_after places k (some es) ≡ Fits (k + length es)
+fit_is : (places k : ℕ) (es : List Entry) → k + length es ≤ places → fit_after places k (Some es) ≡ Fits (k + length es)
 unfolding fit_after
 fit_is places k es le = rw (le-leb (k + length es) places le)
 
-fit-not : (places k : ℕ) (es : List Entry) → places < k + length es → fit_after places k (some es) ≡ Short
+fit-not : (places k : ℕ) (es : List Entry) → places < k + length es → fit_after places k (Some es) ≡ Short
 unfolding fit_after
 fit-not places k es lt = rw (lt-leb (k + length es) places lt)
 
-pub fit_none : (places k : ℕ) (o : Option (List Entry)) (R : Fit) → fit_after places k o ≡ R → o ≡ none → Damage ≡ R
+pub fit_none : (places k : ℕ) (o : Option (List Entry)) (R : Fit) → fit_after places k o ≡ R → o ≡ None → Damage ≡ R
 unfolding fit_after
 fit_none places k o R h q = rw q at h
 
@@ -60,10 +60,10 @@ damage-fits x q = let z : ◌≡◌ {A = ℕ} 0 1 = cc in omega arith
 fits-inj : (x y : ℕ) → Fits x ≡ Fits y → x ≡ y
 fits-inj x y q = cc
 
-pub fit-inv : (places k : ℕ) (o : Option (List Entry)) (x : ℕ) → fit_after places k o ≡ Fits x → (es : List Entry) × (o ≡ some es) × (k + length es ≡ x) × (x ≤ places)
+pub fit-inv : (places k : ℕ) (o : Option (List Entry)) (x : ℕ) → fit_after places k o ≡ Fits x → (es : List Entry) × (o ≡ Some es) × (k + length es ≡ x) × (x ≤ places)
 unfolding fit_after
-fit-inv places k none x q = absurd (damage-fits x q)
-fit-inv places k (some es) x q =
+fit-inv places k None x q = absurd (damage-fits x q)
+fit-inv places k (Some es) x q =
     ⊎_elim
     (λ (le : k + length es ≤ places). let z : k + length es ≡ x = fits-inj (k + length es) x (sym (fit_is places k es le) ∙ q) in (es, refl, z, omega arith))
     (λ (lt : places < k + length es). absurd (short-fits x (sym (fit-not places k es lt) ∙ q)))
@@ -77,7 +77,7 @@ fit-exact places o x q =
     (ap (fit_after x 0) i.1 ∙ fit_is x 0 i.0 (omega arith) ∙ ap Fits len, i.3)
 
 -- a page counted, k entries being before it
-module _ (bib t f : ℕ) (o : Option (List Entry)) (l : List Entry) (page : some l ≡ firsts (said_of bib t f o)) where
+module _ (bib t f : ℕ) (o : Option (List Entry)) (l : List Entry) (page : Some l ≡ firsts (said_of bib t f o)) where
   split : Split bib t f o l
   split = page-split bib t f o l page
 
@@ -89,7 +89,7 @@ module _ (bib t f : ℕ) (o : Option (List Entry)) (l : List Entry) (page : some
 
     pub count-last : length l < 34 → k + length l ≤ places → Fits (k + length l) ≡ R
     count-last few le =
-        let all : said_of bib t f o ≡ some l = split.1 ∙ ap (λ (z : List Entry). some (l ++ z)) (split.2 few) ∙ ap some (append-nil l) in
+        let all : said_of bib t f o ≡ Some l = split.1 ∙ ap (λ (z : List Entry). Some (l ++ z)) (split.2 few) ∙ ap Some (append-nil l) in
         sym (ap (fit_after places k) all ∙ fit_is places k l le) ∙ h
 
     pub count-more : length l ≡ 34 → fit_after places (k + 34) (said_of bib t (onward l) o) ≡ R
@@ -112,7 +112,7 @@ module _ (bib t f : ℕ) (o : Option (List Entry)) (l : List Entry) (page : some
     pub lay-last : length l < 34 → new ≡ R
     unfolding row_of
     lay-last few =
-        let all : said_of bib t f o ≡ some l = split.1 ∙ ap (λ (z : List Entry). some (l ++ z)) (split.2 few) ∙ ap some (append-nil l) in
+        let all : said_of bib t f o ≡ Some l = split.1 ∙ ap (λ (z : List Entry). Some (l ++ z)) (split.2 few) ∙ ap Some (append-nil l) in
         w ∙ (rw all at h)
 
     pub lay-more : length l ≡ 34 → row_of new (k + 34) (said_of bib t (onward l) o) ≡ R
@@ -150,33 +150,33 @@ same-list bib t n es = ap by_stamp (only-ext (wanted bib t 0) (says_of bib t) (w
 abbrev pub Tells : Option (List Entry) → Fit → Roll → Type 0
 Tells o Damage told = told ≡ roll 4 []
 Tells o Short told = told ≡ roll 15 []
-Tells o (Fits x) told = (es : List Entry) × (o ≡ some es) × (told ≡ roll 0 es) × (length es ≡ x)
+Tells o (Fits x) told = (es : List Entry) × (o ≡ Some es) × (told ≡ roll 0 es) × (length es ≡ x)
 
-fitting-tells : (places : ℕ) (es : List Entry) → Tells (some es) (fit_after places 0 (some es)) (fitting places es)
+fitting-tells : (places : ℕ) (es : List Entry) → Tells (Some es) (fit_after places 0 (Some es)) (fitting places es)
 unfolding fitting
 fitting-tells places es =
     let z : 0 + length es ≡ length es = omega arith in
     ⊎_elim
     (λ (le : length es ≤ places).
-    subst (λ (r : Fit). Tells (some es) r (fitting places es)) (sym (fit_is places 0 es (omega arith))) (es, refl, rw (le-leb (length es) places le), sym z))
+    subst (λ (r : Fit). Tells (Some es) r (fitting places es)) (sym (fit_is places 0 es (omega arith))) (es, refl, rw (le-leb (length es) places le), sym z))
     (λ (lt : places < length es).
-    subst (λ (r : Fit). Tells (some es) r (fitting places es)) (sym (fit-not places 0 es (omega arith))) (rw (lt-leb (length es) places lt)))
+    subst (λ (r : Fit). Tells (Some es) r (fitting places es)) (sym (fit-not places 0 es (omega arith))) (rw (lt-leb (length es) places lt)))
     (le-or-lt (length es) places)
 
 on-tells : (bib t : ℕ) → (bib ≡ 0 → ⊥) → (places : ℕ) (o : Option (List Entry))
     → Tells (said_of bib t 0 o) (fit_after places 0 (said_of bib t 0 o)) (history_on bib t places o)
 unfolding history_on said_of fit_after
-on-tells bib t n places none = refl
-on-tells bib t n places (some es) =
-    subst (λ (z : List Entry). Tells (some (by_stamp (only (wanted bib t 0) es))) (fit_after places 0 (some (by_stamp (only (wanted bib t 0) es)))) (fitting places z)) (same-list bib t n es)
+on-tells bib t n places None = refl
+on-tells bib t n places (Some es) =
+    subst (λ (z : List Entry). Tells (Some (by_stamp (only (wanted bib t 0) es))) (fit_after places 0 (Some (by_stamp (only (wanted bib t 0) es)))) (fitting places z)) (same-list bib t n es)
     (fitting-tells places (by_stamp (only (wanted bib t 0) es)))
 
 module _ (card : List ℕ) (bib t places : ℕ) where
-  pub told-broken : head_of card ≡ none → history card bib t places ≡ roll 1 []
+  pub told-broken : head_of card ≡ None → history card bib t places ≡ roll 1 []
   unfolding history history_in
   told-broken q = rw q
 
-  module _ (h : Head) (q : head_of card ≡ some h) where
+  module _ (h : Head) (q : head_of card ≡ Some h) where
     pub told-zero : bib ≡ 0 → history card bib t places ≡ roll 2 []
     unfolding history history_in
     told-zero z = rw (q, eq-eqb bib 0 z)
@@ -201,14 +201,14 @@ data-narrow n e d = (
   omega (arith, legal-status n e d.1),
 )
 
-pub said-small : (h : Head) (card : List ℕ) (bib t f : ℕ) (l rest : List Entry) → said h card bib t f ≡ some (l ++ rest) → AllSmall l
+pub said-small : (h : Head) (card : List ℕ) (bib t f : ℕ) (l rest : List Entry) → said h card bib t f ≡ Some (l ++ rest) → AllSmall l
 unfolding said area said_of
 said-small h card bib t f l rest q = go (entries h.n card (1 + h.n) (h.n * h.m)) refl q
   where
-    go : (o : Option (List Entry)) → entries h.n card (1 + h.n) (h.n * h.m) ≡ o → said_of bib t f o ≡ some (l ++ rest) → AllSmall l
-    go none e z = absurd (none-some z)
-    go (some es) e z =
+    go : (o : Option (List Entry)) → entries h.n card (1 + h.n) (h.n * h.m) ≡ o → said_of bib t f o ≡ Some (l ++ rest) → AllSmall l
+    go None e z = absurd (none-some z)
+    go (Some es) e z =
         let lawful : All (λ d. legal h.n d ≡ true) es = all_map (Stands h.n card (1 + h.n) (1 + h.n + h.n * h.m)) (λ d. legal h.n d ≡ true)
         (λ d s. (held-inv h.n (sector_at card s.0) d s.3).1) es (entries-stand h.n card (1 + h.n) (h.n * h.m) es e) in
         all_map (λ d. (is_data d ≡ true) × (legal h.n d ≡ true)) Narrow (data-narrow h.n) l
-        (all_both (λ d. is_data d ≡ true) (λ d. legal h.n d ≡ true) l (said-data bib t f (some es) l rest z) (said_all (λ d. legal h.n d ≡ true) bib t f es l rest lawful z))
+        (all_both (λ d. is_data d ≡ true) (λ d. legal h.n d ≡ true) l (said-data bib t f (Some es) l rest z) (said_all (λ d. legal h.n d ≡ true) bib t f es l rest lawful z))

@@ -2,7 +2,7 @@
 #![tactic(auto)]
 
 ghost use Rattle.std.specs.Prelude.{◌≡◌, ◌*◌, ◌/◌, ◌≤◌, length};
-ghost use Rattle.std.proofs.Math.Option.{some};
+ghost use Rattle.std.specs.Prelude.{Some};
 ghost use Rattle.rules.specs.History.{history};
 ghost use Rattle.hand.specs.Hand.{held};
 ghost use Rattle.bucket.specs.Shapes.{Shape};
@@ -58,7 +58,7 @@ fn counted(card: &[u8], head: Head, bib: u32, at: u32, places: usize, first: Pag
 // Page after page, into the first sectors of the buffer.
 fn lay(card: &[u8], head: Head, bib: u32, at: u32, out: &mut [u8], total: usize, first: Hand)
     requires shape { (Shape head card.now) × (16 * total ≤ length out.old) }
-    requires count_bound { (first.count ≤ 34) × (length (held first) ≡ first.count) × (some (held first) ≡ firsts (said head card.now bib at 0)) }
+    requires count_bound { (first.count ≤ 34) × (length (held first) ≡ first.count) × (Some (held first) ≡ firsts (said head card.now bib at 0)) }
     requires at_value { fit_after total 0 (said head card.now bib at 0) ≡ Fits total }
     ensures { out.new ≡ row_of out.old 0 (said head card.now bib at 0) }
 {

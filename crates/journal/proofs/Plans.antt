@@ -2,7 +2,7 @@
 use mathlib.Core.Path.{◌≡◌, refl, ap, sym, ◌∙◌}
 use mathlib.Core.Logic.{⊎_elim}
 use mathlib.Core.Bool.{Bool, true, false, not}
-use mathlib.Core.Option.{Option, none, some}
+use Rattle.std.specs.Prelude.{Option, None, Some}
 use mathlib.Core.List.{List}
 use Prim.Native.Nat.{ℕ, zero, suc, ◌+◌, ◌*◌, ◌/◌, ◌≤◌, ◌<◌}
 use native.Mathlib.Omega.{arith}
@@ -30,15 +30,15 @@ use Rattle.journal.specs.declared.Reading.TheVariants.{Broken, Sound}
 use Rattle.journal.specs.Passes.{pass_of, reading_of, post_found, objection}
 
 -- the reading taken apart
-pub broken-none : (x t : ℕ) (o : Option (List Entry)) → reading_of x t o ≡ Broken → o ≡ none
+pub broken-none : (x t : ℕ) (o : Option (List Entry)) → reading_of x t o ≡ Broken → o ≡ None
 unfolding reading_of
-broken-none x t none q = refl
-broken-none x t (some es) q = let z : ◌≡◌ {A = ℕ} 0 1 = cc in absurd (omega arith)
+broken-none x t None q = refl
+broken-none x t (Some es) q = let z : ◌≡◌ {A = ℕ} 0 1 = cc in absurd (omega arith)
 
-pub sound-some : (x t : ℕ) (o : Option (List Entry)) (p : Pass) → reading_of x t o ≡ Sound p → (es : List Entry) × (o ≡ some es) × (p ≡ pass_of x t es)
+pub sound-some : (x t : ℕ) (o : Option (List Entry)) (p : Pass) → reading_of x t o ≡ Sound p → (es : List Entry) × (o ≡ Some es) × (p ≡ pass_of x t es)
 unfolding reading_of
-sound-some x t none p q = let z : ◌≡◌ {A = ℕ} 0 1 = cc in absurd (omega arith)
-sound-some x t (some es) p q = (es, refl, cc)
+sound-some x t None p q = let z : ◌≡◌ {A = ℕ} 0 1 = cc in absurd (omega arith)
+sound-some x t (Some es) p q = (es, refl, cc)
 
 -- a number refuses, 0 goes on
 abbrev coded : ℕ → Plan → Plan
@@ -65,10 +65,10 @@ flaw-first e c p q is = go (flaw_of e) refl
 
 stands-hit : (o : Option Entry) → is_none (standing o) ≡ not (post_found (hit o))
 unfolding is_none standing post_found hit
-stands-hit none = refl
-stands-hit (some e) = ⊎_elim (λ (p : is_post e ≡ true). rw p) (λ (p : is_post e ≡ false). rw p) (bool_cases (is_post e))
+stands-hit None = refl
+stands-hit (Some e) = ⊎_elim (λ (p : is_post e ≡ true). rw p) (λ (p : is_post e ≡ false). rw p) (bool_cases (is_post e))
 
-module _ (slice : List ℕ) (e : Entry) (es : List Entry) (q : journal slice ≡ some es) where
+module _ (slice : List ℕ) (e : Entry) (es : List Entry) (q : journal slice ≡ Some es) where
   -- where the entry goes
   at-end : journal_on slice e (journal_blanks slice) ≡ refuse_if (eqb (length es) (length slice / 16)) 6 (accept (put slice (length es) (encode e)))
   unfolding refuse_if
@@ -126,16 +126,16 @@ module _ (slice : List ℕ) (e : Entry) (es : List Entry) (q : journal slice ≡
         go (suc f) i q = absurd (omega arith)
 
 -- the look
-pub look-broken : (slice : List ℕ) (bib t : ℕ) → journal slice ≡ none → refused 1 ≡ journal_look slice bib t
+pub look-broken : (slice : List ℕ) (bib t : ℕ) → journal slice ≡ None → refused 1 ≡ journal_look slice bib t
 unfolding journal_look journal_look_in
 look-broken slice bib t q = rw q
 
 told-sheet : (bib : ℕ) (o : Option Entry) → told bib 0 (hit o) ≡ sheet bib 0 (standing o)
 unfolding told hit standing
-told-sheet bib none = refl
-told-sheet bib (some e) = refl
+told-sheet bib None = refl
+told-sheet bib (Some e) = refl
 
-module _ (slice : List ℕ) (bib t : ℕ) (es : List Entry) (q : journal slice ≡ some es) where
+module _ (slice : List ℕ) (bib t : ℕ) (es : List Entry) (q : journal slice ≡ Some es) where
   pub look-zero : bib ≡ 0 → refused 2 ≡ journal_look slice bib t
   unfolding journal_look journal_look_in
   look-zero z = rw (q, eq-eqb bib 0 z)

@@ -1,6 +1,6 @@
 -- A journal read through in one pass, as its loops run.
 use Rattle.std.specs.Prelude.{ℕ, ◌+◌, Bool, true, false, not, List, [], ◌∷◌, leb, ltb, eqb, length}
-use Rattle.std.proofs.Math.Option.{Option, none, some}
+use Rattle.std.specs.Prelude.{Option, None, Some}
 use Rattle.rules.specs.declared.Entry.{Entry}
 use Rattle.rules.specs.declared.Answer.{Answer}
 use Rattle.rules.specs.declared.Sector.{Sector}
@@ -49,8 +49,8 @@ unfoldable pub pass_of : ℕ → ℕ → List Entry → Pass
 pass_of x t es = pass (length es) (stamp_in (last_of es)) (hit (copy_of x (left t es)))
 
 unfoldable pub reading_of : ℕ → ℕ → Option (List Entry) → Reading
-reading_of x t none = Broken
-reading_of x t (some es) = Sound (pass_of x t es)
+reading_of x t None = Broken
+reading_of x t (Some es) = Sound (pass_of x t es)
 
 -- an entry that stands is a post
 unfoldable pub post_found : Found → Bool
@@ -74,4 +74,4 @@ lower x t low e = leb e.stamp t & ltb x e.key & leb e.key low
 unfoldable pub next_told : Found → Answer
 next_told Damage = refused 1
 next_told Nothing = ended
-next_told (Hit e) = next_of (some e)
+next_told (Hit e) = next_of (Some e)

@@ -3,7 +3,7 @@ use mathlib.Core.Path.{◌≡◌, refl, sym, ap, ◌∙◌}
 use mathlib.Core.Logic.{⊎_elim}
 use mathlib.Core.Bool.{true, false}
 use mathlib.Core.List.{List, [], ◌∷◌}
-use mathlib.Core.Option.{Option, none, some}
+use Rattle.std.specs.Prelude.{Option, None, Some}
 use Prim.Native.Nat.{ℕ, suc, ◌+◌, ◌*◌, ◌-◌, ◌≤◌, ◌<◌}
 use native.Mathlib.Omega.{arith}
 use native.Mathlib.Numerals.{add-one}
@@ -37,23 +37,23 @@ digit-first line i d =
     (le-or-lt (length line) i)
 
 -- the number ends where no digit follows, and goes on where one does
-pub run_end : (acc : ℕ) (l : List ℕ) → digit_in l ≡ false → run_on acc l ≡ some (piece acc l)
+pub run_end : (acc : ℕ) (l : List ℕ) → digit_in l ≡ false → run_on acc l ≡ Some (piece acc l)
 unfolding digit_in run_on
 run_end acc [] d = refl
 run_end acc (x ∷ xs) d = rw (d, run_on)
 
 run_on-digit : (acc x : ℕ) (xs : List ℕ) → is_digit x ≡ true
-    → run_on acc (x ∷ xs) ≡ if (leb (acc * 10 + (x - 48)) 4294967295) (run_on (acc * 10 + (x - 48)) xs) none
+    → run_on acc (x ∷ xs) ≡ if (leb (acc * 10 + (x - 48)) 4294967295) (run_on (acc * 10 + (x - 48)) xs) None
 unfolding run_on
 run_on-digit acc x xs d = rw (d, run_on)
 
 module _ (line : List ℕ) (acc i : ℕ) (w : Option Piece) (d : digit_in (drop i line) ≡ true) (inv : run_on acc (drop i line) ≡ w) where
-  turn : if (leb (acc * 10 + (get_or line i 0 - 48)) 4294967295) (run_on (acc * 10 + (get_or line i 0 - 48)) (drop (i + 1) line)) none ≡ w
+  turn : if (leb (acc * 10 + (get_or line i 0 - 48)) 4294967295) (run_on (acc * 10 + (get_or line i 0 - 48)) (drop (i + 1) line)) None ≡ w
   turn =
       let here = (digit-first line i d).0 in
       rw (add-one i) (rw (drop-cons line i 0 here, run_on-digit acc (get_or line i 0) (drop (suc i) line) (sym (digit-here line i here) ∙ d)) at inv)
 
-  pub run-over : 4294967295 < acc * 10 + (get_or line i 0 - 48) → none ≡ w
+  pub run-over : 4294967295 < acc * 10 + (get_or line i 0 - 48) → None ≡ w
   run-over h = rw (lt-leb (acc * 10 + (get_or line i 0 - 48)) 4294967295 h) at turn
 
   pub run_more : acc * 10 + (get_or line i 0 - 48) ≤ 4294967295 → run_on (acc * 10 + (get_or line i 0 - 48)) (drop (i + 1) line) ≡ w
@@ -67,7 +67,7 @@ number-grows acc (x ∷ xs) = let h = number-grows (acc * 10 + (x - 48)) xs in o
 
 -- so a number given up early is a number too large
 pub run-number : (acc : ℕ) (l : List ℕ) → acc ≤ 4294967295
-    → run_on acc l ≡ and_then (up_to32 (number_on acc (digits l))) (λ v. some (piece v (beyond l)))
+    → run_on acc l ≡ and_then (up_to32 (number_on acc (digits l))) (λ v. Some (piece v (beyond l)))
 unfolding run_on number_on digits beyond up_to32 digit_in
 run-number acc [] h = rw (le-leb acc 4294967295 h)
 run-number acc (x ∷ xs) h =
@@ -111,7 +111,7 @@ number-plain x [] ne = ap up_to32 (omega arith)
 number-plain x (y ∷ ds) ne = rw (ne_eqb x 48 ne)
 
 -- the four ways of a number: no digit, no 0 first, 0 with a digit behind it, 0 alone
-pub number-none : (l : List ℕ) → digit_in l ≡ false → none ≡ number_in l
+pub number-none : (l : List ℕ) → digit_in l ≡ false → None ≡ number_in l
 unfolding number_in number
 number-none l d = rw (no-digits l d)
 
@@ -129,10 +129,10 @@ module _ (line : List ℕ) (at : ℕ) (d : digit_in (drop at line) ≡ true) whe
   number-run ne =
       run-number 0 (drop at line) (omega arith) ∙ rw here (rw (number-plain (get_or line at 0) (digits (drop (at + 1) line)) ne))
 
-  pub number-lead : get_or line at 0 ≡ 48 → digit_in (drop (at + 1) line) ≡ true → none ≡ number_in (drop at line)
+  pub number-lead : get_or line at 0 ≡ 48 → digit_in (drop (at + 1) line) ≡ true → None ≡ number_in (drop at line)
   unfolding number_in number
   number-lead z e = rw (here, z, some-digits (drop (at + 1) line) e)
 
-  pub number-zero : get_or line at 0 ≡ 48 → digit_in (drop (at + 1) line) ≡ false → some (piece 0 (drop (at + 1) line)) ≡ number_in (drop at line)
+  pub number-zero : get_or line at 0 ≡ 48 → digit_in (drop (at + 1) line) ≡ false → Some (piece 0 (drop (at + 1) line)) ≡ number_in (drop at line)
   unfolding number_in number up_to32
   number-zero z e = rw (here, past, z, no-digits (drop (at + 1) line) e, all-beyond (drop (at + 1) line) e)

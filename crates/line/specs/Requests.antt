@@ -1,6 +1,6 @@
 -- The parser's answers for the calls of the rules.
 use Rattle.std.specs.Prelude.{ℕ, List, [], ◌∷◌}
-use Rattle.std.proofs.Math.Option.{Option, none, some}
+use Rattle.std.specs.Prelude.{Option, None, Some}
 use Rattle.rules.specs.Calls.{Call, format_call, post_call, strike_call, look_call, next_call}
 use Rattle.rules.specs.Plain.{and_then}
 use Rattle.rules.specs.Bench.{numbers, strike_names, look_names, next_names, two, or_try}
@@ -12,28 +12,28 @@ use Rattle.line.specs.declared.Four.{Four}
 use Rattle.line.specs.declared.Four.TheVariants.{All, Not}
 
 unfoldable pub request_of : Option Call → Request
-request_of none = Other
-request_of (some (format_call n m td ti)) = Format n m td ti
-request_of (some (post_call bib at status time)) = Post bib at status time
-request_of (some (strike_call bib at)) = Strike bib at
-request_of (some (look_call bib at)) = Look bib at
-request_of (some (next_call bib at)) = Next bib at
+request_of None = Other
+request_of (Some (format_call n m td ti)) = Format n m td ti
+request_of (Some (post_call bib at status time)) = Post bib at status time
+request_of (Some (strike_call bib at)) = Strike bib at
+request_of (Some (look_call bib at)) = Look bib at
+request_of (Some (next_call bib at)) = Next bib at
 
 unfoldable pub pair_of : Option (List ℕ) → Pair
-pair_of none = Neither
-pair_of (some []) = Neither
-pair_of (some (a ∷ [])) = Neither
-pair_of (some (a ∷ b ∷ [])) = Both a b
-pair_of (some (a ∷ b ∷ c ∷ xs)) = Neither
+pair_of None = Neither
+pair_of (Some []) = Neither
+pair_of (Some (a ∷ [])) = Neither
+pair_of (Some (a ∷ b ∷ [])) = Both a b
+pair_of (Some (a ∷ b ∷ c ∷ xs)) = Neither
 
 unfoldable pub four_of : Option (List ℕ) → Four
-four_of none = Not
-four_of (some []) = Not
-four_of (some (a ∷ [])) = Not
-four_of (some (a ∷ b ∷ [])) = Not
-four_of (some (a ∷ b ∷ c ∷ [])) = Not
-four_of (some (a ∷ b ∷ c ∷ d ∷ [])) = All a b c d
-four_of (some (a ∷ b ∷ c ∷ d ∷ e ∷ xs)) = Not
+four_of None = Not
+four_of (Some []) = Not
+four_of (Some (a ∷ [])) = Not
+four_of (Some (a ∷ b ∷ [])) = Not
+four_of (Some (a ∷ b ∷ c ∷ [])) = Not
+four_of (Some (a ∷ b ∷ c ∷ d ∷ [])) = All a b c d
+four_of (Some (a ∷ b ∷ c ∷ d ∷ e ∷ xs)) = Not
 
 -- the calls of the rules that have a bib and a stamp
 unfoldable pub other_call : List ℕ → Option Call

@@ -1,7 +1,7 @@
 -- One walk of next, and what its end says of the answer; the root is found once for all walks.
 use mathlib.Core.Path.{◌≡◌, refl, ap, sym, ◌∙◌}
 use mathlib.Core.Logic.{⊎_elim}
-use mathlib.Core.Option.{none, some}
+use Rattle.std.specs.Prelude.{None, Some}
 use mathlib.Core.List.{List, [], ◌∷◌}
 use Prim.Native.Nat.{ℕ, suc, ◌-◌, ◌≤◌, ◌<◌}
 use native.Mathlib.Omega.{arith}
@@ -61,15 +61,15 @@ pub leg-root : (h : Head) (card : List ℕ) (k t x : ℕ) (root : Entry) (l : Le
 unfolding leg leg_from
 leg-root h card k t x root l found walked = rw found walked
 
-pub next-broken : (card : List ℕ) (k t : ℕ) → head_of card ≡ none → refused 1 ≡ next card k t
+pub next-broken : (card : List ℕ) (k t : ℕ) → head_of card ≡ None → refused 1 ≡ next card k t
 unfolding next next_in
 next-broken card k t q = rw q
 
-pub next-early : (card : List ℕ) (k t : ℕ) (h : Head) → head_of card ≡ some h → t < beginning card → refused 13 ≡ next card k t
+pub next-early : (card : List ℕ) (k t : ℕ) (h : Head) → head_of card ≡ Some h → t < beginning card → refused 13 ≡ next card k t
 unfolding next next_in
 next-early card k t h q lt = rw (q, lt-ltb t (beginning card) lt)
 
-module _ (card : List ℕ) (k t : ℕ) (h : Head) (q : head_of card ≡ some h) (le : beginning card ≤ t) where
+module _ (card : List ℕ) (k t : ℕ) (h : Head) (q : head_of card ≡ Some h) (le : beginning card ≤ t) where
   pub next-rounds : rounds h card k t 4294967296 k ≡ next card k t
   unfolding next_scan next_scan_in
   next-rounds = rw (q, le-ltb t (beginning card) le) at (next-scan card k t)

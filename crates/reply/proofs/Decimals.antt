@@ -45,7 +45,7 @@ places x (suc k) h p = (omega arith, let q = rw (add-one (suc k), pow-suc 10 (su
 -- a turn of the loop, and its end
 module _ (room : List ℕ) (x k : ℕ) (w : List ℕ) (h : k < length room) (inv : decimal_on (suc x) x (drop (k + 1) room) ≡ w) where
   pub digit-stored : 9 < x → 1 ≤ k → decimal_on (suc (x / 10)) (x / 10) (drop (k - 1 + 1) (set room k (48 + x % 10))) ≡ w
-  digit-stored large some =
+  digit-stored large Some =
       let back : k - 1 + 1 ≡ k = omega arith in
       rw (back, stored room k (48 + x % 10) h) (sym (next-digit x (drop (k + 1) room) large) ∙ inv)
 

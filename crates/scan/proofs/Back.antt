@@ -110,7 +110,7 @@ back_step n i part h = let more : i ≡ suc (i - 1) = omega arith in ap (last_fi
 
 pub back_end : (n i : ℕ) (part : List ℕ) → i ≡ 0 → last_first n part i ≡ []
 unfolding last_first
-back_end n i part none = rw none
+back_end n i part None = rw None
 
 -- any question g to the sectors before the i-th, once the one before it was read as s; w is what all of them answer
 pub back-turn : {A : Type 0} (g : List Sector → A) (n i : ℕ) (part : List ℕ) (s : Sector) (w : A) → 0 < i

@@ -2,7 +2,7 @@
 use mathlib.Core.Path.{◌≡◌, refl, ap, sym, ◌∙◌}
 use mathlib.Core.Logic.{⊎_elim}
 use mathlib.Core.Bool.{Bool, true, false}
-use mathlib.Core.Option.{Option, none, some}
+use Rattle.std.specs.Prelude.{Option, None, Some}
 use mathlib.Core.List.{List, [], ◌∷◌}
 use Prim.Native.Nat.{ℕ, zero, suc, ◌≤◌, ◌<◌}
 use native.Mathlib.Omega.{arith}
@@ -161,7 +161,7 @@ fields-turn ok n x t b (Held e) ss f W d r w = ((and-true (ok e) (runs ok ss) r)
 fields-turn ok n x t b Damaged ss f W d r w = absurd (false-true r)
 
 -- a run has its entries
-runs-some : (ok : Entry → Bool) (ss : List Sector) → runs ok ss ≡ true → (es : List Entry) × (run_of ss ≡ some es)
+runs-some : (ok : Entry → Bool) (ss : List Sector) → runs ok ss ≡ true → (es : List Entry) × (run_of ss ≡ Some es)
 unfolding runs run_of onto
 runs-some ok [] q = ([], refl)
 runs-some ok (Blank ∷ ss) q = ([], blank-run ss ∙ rw q)
@@ -251,25 +251,25 @@ module _ (ok : Entry → Bool) (ss : List Sector) (q : runs ok ss ≡ true) (x t
   none-next f is p = go (above_in x t held) refl
     where
       go : (r : Option Entry) → above_in x t held ≡ r → Nothing ≡ stand_in x t ss Nothing
-      go none e = sym (stands-is x ∙ ap hit (stand-none x (left t held) e))
-      go (some d) e =
+      go None e = sym (stands-is x ∙ ap hit (stand-none x (left t held) e))
+      go (Some d) e =
           let found : f ≡ Hit d = is ∙ least-is ∙ ap hit e in
           let tag : OneOf (0 ∷ 1 ∷ []) (tag_of the_type (Hit d)) = rw found at p in
           absurd (⊎_elim (λ a. omega arith) (λ b. omega arith) tag)
 
   module _ (f : Found) (e : Entry) (is : f ≡ weigh (above_at x t) ss Nothing) (got : f ≡ Hit e) where
-    least-e : above_in x t held ≡ some e
+    least-e : above_in x t held ≡ Some e
     unfolding hit
     least-e = go (above_in x t held) (sym least-is ∙ sym is ∙ got)
       where
-        go : (r : Option Entry) → hit r ≡ Hit e → r ≡ some e
-        go none q = let z : ◌≡◌ {A = ℕ} 0 1 = cc in absurd (omega arith)
-        go (some d) q = cc
+        go : (r : Option Entry) → hit r ≡ Hit e → r ≡ Some e
+        go None q = let z : ◌≡◌ {A = ℕ} 0 1 = cc in absurd (omega arith)
+        go (Some d) q = cc
 
     pub next-rises : x < e.key
     next-rises = least-over x (left t held) e least-e
 
-    told : stand_in x t ss Nothing ≡ hit (if (is_post e) (some e) (standing_above e.key (left t held)))
+    told : stand_in x t ss Nothing ≡ hit (if (is_post e) (Some e) (standing_above e.key (left t held)))
     told = stands-is x ∙ ap hit (least-stands x (left t held) e least-e)
 
     -- a post: it is the next

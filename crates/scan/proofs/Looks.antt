@@ -1,7 +1,7 @@
 -- The walk with a counter is the rules' path and its length, and the look is the rules' look.
 use mathlib.Core.Path.{◌≡◌, refl, ap, ◌∙◌}
 use mathlib.Core.Bool.{false}
-use mathlib.Core.Option.{Option, none, some}
+use Rattle.std.specs.Prelude.{Option, None, Some}
 use Prim.Native.Nat.{ℕ, zero, suc, ◌+◌}
 use native.Mathlib.Omega.{arith}
 use mathlib.Core.List.{List, [], ◌∷◌}
@@ -25,14 +25,14 @@ use Rattle.scan.proofs.Ways.{way_on, way_in, search-bucket, root_of, last_left, 
 
 -- a path that is read is not empty
 abbrev pub Filled : Option (List Visit) → Type 0
-Filled none = Unit {0}
-Filled (some []) = ⊥
-Filled (some (v ∷ p)) = Unit {0}
+Filled None = Unit {0}
+Filled (Some []) = ⊥
+Filled (Some (v ∷ p)) = Unit {0}
 
 met-filled : (v : Visit) (r : Option (List Visit)) → Filled (met v r)
 unfolding met
-met-filled v none = tt
-met-filled v (some p) = tt
+met-filled v None = tt
+met-filled v (Some p) = tt
 
 go-filled : (v : Visit) (u : Turn) (on : ℕ → ℕ → Option (List Visit)) → Filled (go v u on)
 unfolding go
@@ -42,8 +42,8 @@ go-filled v (down e) on = met-filled v (on e.value e.key)
 
 in-filled : (t x b k : ℕ) (r : Option (List Entry)) (on : ℕ → ℕ → Option (List Visit)) → Filled (go_in t x b k r on)
 unfolding go_in
-in-filled t x b k none on = tt
-in-filled t x b k (some es) on = go-filled (record { number = b; entries = es }) (turn t x k es) on
+in-filled t x b k None on = tt
+in-filled t x b k (Some es) on = go-filled (record { number = b; entries = es }) (turn t x k es) on
 
 pub path-filled : (rd : ℕ → Option (List Entry)) (t x f b k : ℕ) → Filled (path rd t x f b k)
 unfolding path
@@ -52,31 +52,31 @@ path-filled rd t x (suc f) b k = in-filled t x b k (rd b) (path rd t x f)
 
 -- the trip of a path, where r buckets were read before it
 unfoldable pub trip_in : ℕ → ℕ → ℕ → Option (List Visit) → Trip
-trip_in x t r none = trip 0 Damage
-trip_in x t r (some p) = trip (r + length p) (hit (copy_of x (left t (data_of p))))
+trip_in x t r None = trip 0 Damage
+trip_in x t r (Some p) = trip (r + length p) (hit (copy_of x (left t (data_of p))))
 
 trip-met : (x t r : ℕ) (v : Visit) (q : Option (List Visit)) → Filled q → trip_in x t (r + 1) q ≡ trip_in x t r (met v q)
 unfolding trip_in met data_of
-trip-met x t r v none f = refl
-trip-met x t r v (some []) f = absurd f
-trip-met x t r v (some (w ∷ p)) f =
+trip-met x t r v None f = refl
+trip-met x t r v (Some []) f = absurd f
+trip-met x t r v (Some (w ∷ p)) f =
     let n : r + 1 + length (w ∷ p) ≡ r + length (v ∷ w ∷ p) = omega arith in
     ap (λ (l : ℕ). trip l (hit (copy_of x (left t (data_of (w ∷ p)))))) n
 
 onward-here : (r : ℕ) (c : Option Entry) (on : ℕ → ℕ → Trip) → onward (way_of false (hit c)) r on ≡ trip r (hit c)
 unfolding onward way_of hit
-onward-here r none on = refl
-onward-here r (some e) on = refl
+onward-here r None on = refl
+onward-here r (Some e) on = refl
 
-lost-trip : (x t r s : ℕ) (on : ℕ → ℕ → Trip) → onward Lost s on ≡ trip_in x t r none
+lost-trip : (x t r s : ℕ) (on : ℕ → ℕ → Trip) → onward Lost s on ≡ trip_in x t r None
 unfolding onward trip_in
 lost-trip x t r s on = refl
 
-no-trip : (x t r : ℕ) → trip 0 Damage ≡ trip_in x t r none
+no-trip : (x t r : ℕ) → trip 0 Damage ≡ trip_in x t r None
 unfolding trip_in
 no-trip x t r = refl
 
-here-trip : (x t r b : ℕ) (es : List Entry) → trip (r + 1) (hit (copy_of x (left t es))) ≡ trip_in x t r (some (record { number = b; entries = es } ∷ []))
+here-trip : (x t r b : ℕ) (es : List Entry) → trip (r + 1) (hit (copy_of x (left t es))) ≡ trip_in x t r (Some (record { number = b; entries = es } ∷ []))
 unfolding trip_in data_of
 here-trip x t r b es = refl
 
@@ -97,8 +97,8 @@ in-trip : (x t r b k : ℕ) (rd : Option (List Entry)) (on : ℕ → ℕ → Tri
     → ((c k : ℕ) → on c k ≡ trip_in x t (r + 1) (to c k)) → ((c k : ℕ) → Filled (to c k))
     → onward (way_in t x k rd) (r + 1) on ≡ trip_in x t r (go_in t x b k rd to)
 unfolding way_in go_in
-in-trip x t r b k none on to ih f = lost-trip x t r (r + 1) on
-in-trip x t r b k (some es) on to ih f = go-trip x t r b es (turn t x k es) on to ih f
+in-trip x t r b k None on to ih f = lost-trip x t r (r + 1) on
+in-trip x t r b k (Some es) on to ih f = go-trip x t r b es (turn t x k es) on to ih f
 
 -- the walk's loop: the path from b and its length
 pub walk-path : (h : Head) (card : List ℕ) (x t f r b k : ℕ) → walk_scan h card x t f r b k ≡ trip_in x t r (path (bucket h card) t x f b k)
@@ -117,8 +117,8 @@ from-root h card x t (Hit e) = walk-path h card x t h.n 0 e.value 0
 
 pub in_then : (rd : ℕ → Option (List Entry)) (t x f : ℕ) (l : Option (List Entry)) → path_from rd t x f (and_then l (last_left t)) ≡ path_in rd t x f l
 unfolding path_from path_in
-in_then rd t x f none = refl
-in_then rd t x f (some es) = refl
+in_then rd t x f None = refl
+in_then rd t x f (Some es) = refl
 
 -- from the log on
 trip-walk : (h : Head) (card : List ℕ) (x t : ℕ)
@@ -131,20 +131,20 @@ trip-walk h card x t =
 
 told-hit : (bib r : ℕ) (c : Option Entry) → told bib r (hit c) ≡ sheet bib r (standing c)
 unfolding told hit standing
-told-hit bib r none = refl
-told-hit bib r (some e) = refl
+told-hit bib r None = refl
+told-hit bib r (Some e) = refl
 
 told-look : (bib t : ℕ) (q : Option (List Visit)) → told_of bib (trip_in bib t 0 q) ≡ look_on bib t q
 unfolding trip_in look_on told stands_on
-told-look bib t none = refl
-told-look bib t (some p) =
+told-look bib t None = refl
+told-look bib t (Some p) =
     let z : 0 + length p ≡ length p = omega arith in
     rw z (told-hit bib (length p) (copy_of bib (left t (data_of p))))
 
 in-look : (bib t : ℕ) (card : List ℕ) (h : Option Head) → look_scan_in bib t card h ≡ look_in bib t card h
 unfolding look_scan_in look_in
-in-look bib t card none = refl
-in-look bib t card (some h) = rw (trip-walk h card bib t, told-look bib t (walk h card t bib))
+in-look bib t card None = refl
+in-look bib t card (Some h) = rw (trip-walk h card bib t, told-look bib t (walk h card t bib))
 
 -- the look, as the loops run, is the rules' look
 pub look-scan : (card : List ℕ) (bib t : ℕ) → look_scan card bib t ≡ look card bib t

@@ -2,7 +2,7 @@
 use mathlib.Core.Path.{◌≡◌, refl, ap, sym, ◌∙◌, subst}
 use mathlib.Core.Logic.{◌⊎◌, inl, inr, ⊎_elim}
 use mathlib.Core.Bool.{Bool, true, false, not}
-use mathlib.Core.Option.{Option, none, some}
+use Rattle.std.specs.Prelude.{Option, None, Some}
 use Prim.Native.Nat.{ℕ, ◌≤◌, ◌<◌}
 use native.Mathlib.Omega.{arith}
 use mathlib.Core.List.{List, [], ◌∷◌, ◌++◌, append_assoc}
@@ -40,17 +40,17 @@ downward-order = record {
 
 smaller-better : (e : Entry) (r : Option Entry) → smaller e r ≡ better downward e r
 unfolding smaller
-smaller-better e none = refl
-smaller-better e (some d) = refl
+smaller-better e None = refl
+smaller-better e (Some d) = refl
 
-smallest-snoc : (es : List Entry) (p : Entry) → smallest (es ++ (p ∷ [])) ≡ some (low (smallest es) p)
+smallest-snoc : (es : List Entry) (p : Entry) → smallest (es ++ (p ∷ [])) ≡ Some (low (smallest es) p)
 unfolding smallest
 smallest-snoc = best-snoc downward downward-order smallest refl (λ e es. smaller-better e (smallest es))
 
-under_low : (r : Option Entry) (e : Entry) → under (hit r) e ≡ hit (some (low r e))
+under_low : (r : Option Entry) (e : Entry) → under (hit r) e ≡ hit (Some (low r e))
 unfolding under hit
-under_low none e = refl
-under_low (some d) e = elim (leb e.key d.key) as (λ b. if b (Hit e) (Hit d) ≡ hit (some (if b e d))) [ true ↦ refl | false ↦ refl ]
+under_low None e = refl
+under_low (Some d) e = elim (leb e.key d.key) as (λ b. if b (Hit e) (Hit d) ≡ hit (Some (if b e d))) [ true ↦ refl | false ↦ refl ]
 
 under-snoc : (pre : List Entry) (e : Entry) → under (hit (smallest pre)) e ≡ hit (smallest (pre ++ (e ∷ [])))
 under-snoc pre e = under_low (smallest pre) e ∙ ap hit (sym (smallest-snoc pre e))
@@ -133,18 +133,18 @@ unfolding standing_above
 stand-above k t es = stand-fold k t es Nothing ∙ fold-under (only (wanted k) (lasts (left t es)))
 
 -- how a run begins
-pub blank-nil : (r : Option (List Entry)) (es : List Entry) → onto Blank r ≡ some es → es ≡ []
+pub blank-nil : (r : Option (List Entry)) (es : List Entry) → onto Blank r ≡ Some es → es ≡ []
 unfolding onto
-blank-nil none es h = absurd (none-some h)
-blank-nil (some []) es h = cc
-blank-nil (some (e ∷ r)) es h = absurd (none-some h)
+blank-nil None es h = absurd (none-some h)
+blank-nil (Some []) es h = cc
+blank-nil (Some (e ∷ r)) es h = absurd (none-some h)
 
-pub held_cons : (e : Entry) (r : Option (List Entry)) (es : List Entry) → onto (Held e) r ≡ some es → (xs : List Entry) × (es ≡ e ∷ xs) × (r ≡ some xs)
+pub held_cons : (e : Entry) (r : Option (List Entry)) (es : List Entry) → onto (Held e) r ≡ Some es → (xs : List Entry) × (es ≡ e ∷ xs) × (r ≡ Some xs)
 unfolding onto
-held_cons e none es h = absurd (none-some h)
-held_cons e (some xs) es h = (xs, cc, refl)
+held_cons e None es h = absurd (none-some h)
+held_cons e (Some xs) es h = (xs, cc, refl)
 
-pub damaged-no : (r : Option (List Entry)) (es : List Entry) → onto Damaged r ≡ some es → ⊥
+pub damaged-no : (r : Option (List Entry)) (es : List Entry) → onto Damaged r ≡ Some es → ⊥
 unfolding onto
 damaged-no r es h = none-some h
 
@@ -171,7 +171,7 @@ later-front x t e es =
     (le-or-lt e.stamp t)
 
 -- over sectors that are a run
-pub weigh-run : (pick : Found → Entry → Found) (ss : List Sector) (es : List Entry) (best : Found) → run_of ss ≡ some es → weigh pick ss best ≡ fold pick best es
+pub weigh-run : (pick : Found → Entry → Found) (ss : List Sector) (es : List Entry) (best : Found) → run_of ss ≡ Some es → weigh pick ss best ≡ fold pick best es
 unfolding weigh run_of fold
 weigh-run pick [] es best h = let z : [] ≡ es = cc in subst (λ l. best ≡ fold pick best l) z refl
 weigh-run pick (Blank ∷ ss) es best h = rw (blank-nil (run_of ss) es h) refl
@@ -180,7 +180,7 @@ weigh-run pick (Held e ∷ ss) es best h =
     rw w.1 (weigh-run pick ss w.0 (pick best e) w.2)
 weigh-run pick (Damaged ∷ ss) es best h = absurd (damaged-no (run_of ss) es h)
 
-later-run : (x t : ℕ) (ss : List Sector) (es : List Entry) → run_of ss ≡ some es → later x t ss ≡ not (is_none (copy_of x (left t es)))
+later-run : (x t : ℕ) (ss : List Sector) (es : List Entry) → run_of ss ≡ Some es → later x t ss ≡ not (is_none (copy_of x (left t es)))
 unfolding later run_of
 later-run x t [] es h = let z : [] ≡ es = cc in subst (λ l. false ≡ not (is_none (copy_of x (left t l)))) z (no_copy x t)
 later-run x t (Blank ∷ ss) es h = rw (blank-nil (run_of ss) es h) (no_copy x t)
@@ -189,7 +189,7 @@ later-run x t (Held e ∷ ss) es h =
     rw (w.1, later-run x t ss w.0 w.2) (later-front x t e w.0)
 later-run x t (Damaged ∷ ss) es h = absurd (damaged-no (run_of ss) es h)
 
-pub stand-run : (k t : ℕ) (ss : List Sector) (es : List Entry) (best : Found) → run_of ss ≡ some es → stand_in k t ss best ≡ stand_fold k t es best
+pub stand-run : (k t : ℕ) (ss : List Sector) (es : List Entry) (best : Found) → run_of ss ≡ Some es → stand_in k t ss best ≡ stand_fold k t es best
 unfolding stand_in run_of stand_fold
 stand-run k t [] es best h = let z : [] ≡ es = cc in subst (λ l. best ≡ stand_fold k t l best) z refl
 stand-run k t (Blank ∷ ss) es best h = rw (blank-nil (run_of ss) es h) refl

@@ -1,7 +1,7 @@
 -- The walks and rounds of next, as the loops run, are the rules' next.
 use mathlib.Core.Path.{◌≡◌, refl, ap, sym, ◌∙◌}
 use mathlib.Core.Bool.{false}
-use mathlib.Core.Option.{Option, none, some}
+use Rattle.std.specs.Prelude.{Option, None, Some}
 use Prim.Native.Nat.{ℕ, zero, suc}
 use mathlib.Core.List.{List, [], ◌∷◌, ◌++◌, append_assoc}
 use Rattle.rules.specs.declared.Entry.{Entry}
@@ -31,17 +31,17 @@ use Rattle.scan.proofs.Looks.{Filled, path-filled, in_then}
 use Rattle.scan.proofs.Mins.{above_in, fold_up, stand-above, weigh-run, stand-run}
 
 -- a bucket that is read is the run of its sectors
-sound-same : (xs es : List Entry) → sound_bucket xs ≡ some es → xs ≡ es
+sound-same : (xs es : List Entry) → sound_bucket xs ≡ Some es → xs ≡ es
 unfolding sound_bucket
 sound-same [] es h = absurd (none-some h)
 sound-same (x ∷ xs) es h = (guard-true (every (joins x) (x ∷ xs)) (x ∷ xs) es h).1
 
-bucket-run : (h : Head) (card : List ℕ) (b : ℕ) (es : List Entry) → bucket h card b ≡ some es → run_of (sectors_of h card b) ≡ some es
+bucket-run : (h : Head) (card : List ℕ) (b : ℕ) (es : List Entry) → bucket h card b ≡ Some es → run_of (sectors_of h card b) ≡ Some es
 unfolding bucket sectors_of
 bucket-run h card zero es e = absurd (none-some e)
 bucket-run h card (suc b) es e =
     let w = then-inv (run h.n card (base h (suc b)) h.m) sound_bucket es e in
-    sym (run-sectors h.n card (base h (suc b)) h.m) ∙ w.1 ∙ ap some (sound-same w.0 es w.2)
+    sym (run-sectors h.n card (base h (suc b)) h.m) ∙ w.1 ∙ ap Some (sound-same w.0 es w.2)
 
 -- the least index key above x over a path
 unfoldable pub ups : ℕ → ℕ → Found → List Visit → Found
@@ -49,22 +49,22 @@ ups x t up [] = up
 ups x t up (v ∷ p) = ups x t (fold (pick_up x t) up v.entries) p
 
 unfoldable pub leg_in : ℕ → ℕ → ℕ → Found → Option (List Visit) → Leg
-leg_in k x t up none = Gone
-leg_in k x t up (some p) = leg_of (hit (standing_above k (left t (data_of p)))) (ups x t up p)
+leg_in k x t up None = Gone
+leg_in k x t up (Some p) = leg_of (hit (standing_above k (left t (data_of p)))) (ups x t up p)
 
 leg-met : (k x t : ℕ) (up : Found) (v : Visit) (q : Option (List Visit)) → Filled q
     → leg_in k x t (fold (pick_up x t) up v.entries) q ≡ leg_in k x t up (met v q)
 unfolding leg_in met data_of ups
-leg-met k x t up v none f = refl
-leg-met k x t up v (some []) f = absurd f
-leg-met k x t up v (some (w ∷ p)) f = refl
+leg-met k x t up v None f = refl
+leg-met k x t up v (Some []) f = absurd f
+leg-met k x t up v (Some (w ∷ p)) f = refl
 
 stride-here : (c : Option Entry) (here : Leg) (on : ℕ → ℕ → Leg) → stride (way_of false (hit c)) here on ≡ here
 unfolding stride way_of hit
-stride-here none here on = refl
-stride-here (some e) here on = refl
+stride-here None here on = refl
+stride-here (Some e) here on = refl
 
-stride-lost : (k x t : ℕ) (up : Found) (here : Leg) (on : ℕ → ℕ → Leg) → stride Lost here on ≡ leg_in k x t up none
+stride-lost : (k x t : ℕ) (up : Found) (here : Leg) (on : ℕ → ℕ → Leg) → stride Lost here on ≡ leg_in k x t up None
 unfolding stride leg_in
 stride-lost k x t up here on = refl
 
@@ -73,7 +73,7 @@ unfolding stride
 stride-down e here on = refl
 
 leg-here : (k x t b : ℕ) (up : Found) (es : List Entry)
-    → leg_of (hit (standing_above k (left t es))) (fold (pick_up x t) up es) ≡ leg_in k x t up (some (record { number = b; entries = es } ∷ []))
+    → leg_of (hit (standing_above k (left t es))) (fold (pick_up x t) up es) ≡ leg_in k x t up (Some (record { number = b; entries = es } ∷ []))
 unfolding leg_in data_of ups
 leg-here k x t b up es = refl
 
@@ -92,18 +92,18 @@ go-leg k x t b up es (down e) on to ih f =
 
 -- one bucket, where its sectors are ss
 in-leg : (k x t b j : ℕ) (up : Found) (ss : List Sector) (rd : Option (List Entry)) (on : Found → ℕ → ℕ → Leg) (to : ℕ → ℕ → Option (List Visit))
-    → ((es : List Entry) → rd ≡ some es → run_of ss ≡ some es)
+    → ((es : List Entry) → rd ≡ Some es → run_of ss ≡ Some es)
     → ((u : Found) (c j : ℕ) → on u c j ≡ leg_in k x t u (to c j)) → ((c j : ℕ) → Filled (to c j))
     → stride (way_in t x j rd) (leg_of (stand_in k t ss Nothing) (weigh (pick_up x t) ss up)) (on (weigh (pick_up x t) ss up))
     ≡ leg_in k x t up (go_in t x b j rd to)
 unfolding way_in go_in
-in-leg k x t b j up ss none on to run ih f =
+in-leg k x t b j up ss None on to run ih f =
     stride-lost k x t up (leg_of (stand_in k t ss Nothing) (weigh (pick_up x t) ss up)) (on (weigh (pick_up x t) ss up))
-in-leg k x t b j up ss (some es) on to run ih f =
+in-leg k x t b j up ss (Some es) on to run ih f =
     rw (weigh-run (pick_up x t) ss es up (run es refl), stand-run k t ss es Nothing (run es refl), stand-above k t es)
     (go-leg k x t b up es (turn t x j es) (on (fold (pick_up x t) up es)) to (ih (fold (pick_up x t) up es)) f)
 
-leg-none : (k x t : ℕ) (up : Found) → Gone ≡ leg_in k x t up none
+leg-none : (k x t : ℕ) (up : Found) → Gone ≡ leg_in k x t up None
 unfolding leg_in
 leg-none k x t up = refl
 
@@ -144,9 +144,9 @@ none_above x t = refl
 
 after-or : (a b : Option Entry) (on to : ℕ → Answer) → ((y : ℕ) → on y ≡ to y) → after (leg_of (hit a) (hit b)) on ≡ hopping (hop_or a (hop_to b)) to
 unfolding after leg_of hit hop_or hop_to hopping
-after-or (some e) b on to same = refl
-after-or none none on to same = refl
-after-or none (some d) on to same = same d.key
+after-or (Some e) b on to same = refl
+after-or None None on to same = refl
+after-or None (Some d) on to same = same d.key
 
 gone : (on to : ℕ → Answer) → after Gone on ≡ hopping (final (refused 4)) to
 unfolding after hopping
@@ -155,8 +155,8 @@ gone on to = refl
 after-hop : (k x t : ℕ) (q : Option (List Visit)) (on to : ℕ → Answer) → ((y : ℕ) → on y ≡ to y)
     → after (leg_in k x t Nothing q) on ≡ hopping (hop k t x q) to
 unfolding leg_in hop key_above
-after-hop k x t none on to same = gone on to
-after-hop k x t (some p) on to same =
+after-hop k x t None on to same = gone on to
+after-hop k x t (Some p) on to same =
     rw (none_above x t, ups-index x t [] p) (after-or (standing_above k (left t (data_of p))) (above_in x t (index_on p)) on to same)
 
 pub rounds-next : (h : Head) (card : List ℕ) (k t f x : ℕ) → rounds h card k t f x ≡ next_from (walk h card t) k t f x
@@ -167,8 +167,8 @@ rounds-next h card k t (suc f) x =
 
 in-next : (k t : ℕ) (card : List ℕ) (h : Option Head) → next_scan_in k t card h ≡ next_in k t card h
 unfolding next_scan_in next_in
-in-next k t card none = refl
-in-next k t card (some h) = ap (if (ltb t (beginning card)) (refused 13)) (rounds-next h card k t 4294967296 k)
+in-next k t card None = refl
+in-next k t card (Some h) = ap (if (ltb t (beginning card)) (refused 13)) (rounds-next h card k t 4294967296 k)
 
 -- next, as the loops run, is the rules' next
 pub next-scan : (card : List ℕ) (k t : ℕ) → next_scan card k t ≡ next card k t

@@ -2,7 +2,7 @@
 use mathlib.Core.Path.{◌≡◌, refl, sym}
 use mathlib.Core.Logic.{⊎_elim}
 use mathlib.Core.Bool.{true, false}
-use mathlib.Core.Option.{Option, none, some}
+use Rattle.std.specs.Prelude.{Option, None, Some}
 use Prim.Native.Nat.{ℕ, ◌≤◌, ◌<◌}
 use mathlib.Core.List.{List, [], ◌∷◌, ◌++◌}
 use lib.Dec.{leb}
@@ -19,13 +19,13 @@ use Rattle.scan.proofs.Runs.{nil, fold, fold-snoc}
 
 -- a choice as the scan holds it
 unfoldable pub hit : Option Entry → Found
-hit none = Nothing
-hit (some e) = Hit e
+hit None = Nothing
+hit (Some e) = Hit e
 
-over-top : (r : Option Entry) (e : Entry) → over (hit r) e ≡ hit (some (top r e))
+over-top : (r : Option Entry) (e : Entry) → over (hit r) e ≡ hit (Some (top r e))
 unfolding over hit
-over-top none e = refl
-over-top (some d) e = elim (leb d.key e.key) as (λ b. if b (Hit e) (Hit d) ≡ hit (some (if b e d))) [ true ↦ refl | false ↦ refl ]
+over-top None e = refl
+over-top (Some d) e = elim (leb d.key e.key) as (λ b. if b (Hit e) (Hit d) ≡ hit (Some (if b e d))) [ true ↦ refl | false ↦ refl ]
 
 pub left_in : (t : ℕ) (pre : List Entry) (e : Entry) → e.stamp ≤ t → left t (pre ++ (e ∷ [])) ≡ left t pre ++ (e ∷ [])
 unfolding left only

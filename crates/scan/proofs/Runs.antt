@@ -1,7 +1,7 @@
 -- A scan gives what the run of its sectors gives.
 use mathlib.Core.Path.{◌≡◌, refl, ap, sym, ◌∙◌}
 use mathlib.Core.Bool.{Bool, true, false}
-use mathlib.Core.Option.{Option, none, some}
+use Rattle.std.specs.Prelude.{Option, None, Some}
 use Prim.Native.Nat.{ℕ, zero, suc}
 use mathlib.Core.List.{List, [], ◌∷◌, ◌++◌, append_assoc}
 use Rattle.rules.specs.declared.Entry.{Entry}
@@ -15,7 +15,7 @@ use Rattle.scan.specs.Scan.{sectors, all_blank, scan_in}
 
 -- the run of sectors that are read
 unfoldable pub run_of : List Sector → Option (List Entry)
-run_of [] = some []
+run_of [] = Some []
 run_of (s ∷ ss) = onto s (run_of ss)
 
 pub run-sectors : (n : ℕ) (card : List ℕ) (i c : ℕ) → run n card i c ≡ run_of (sectors n card i c)
@@ -25,16 +25,16 @@ run-sectors n card i (suc c) = rw (run-sectors n card (suc i) c)
 
 blank-blank : (r : Option (List Entry)) → onto Blank (onto Blank r) ≡ onto Blank r
 unfolding onto
-blank-blank none = refl
-blank-blank (some []) = refl
-blank-blank (some (e ∷ es)) = refl
+blank-blank None = refl
+blank-blank (Some []) = refl
+blank-blank (Some (e ∷ es)) = refl
 
-blank-held : (e : Entry) (r : Option (List Entry)) → onto Blank (onto (Held e) r) ≡ none
+blank-held : (e : Entry) (r : Option (List Entry)) → onto Blank (onto (Held e) r) ≡ None
 unfolding onto
-blank-held e none = refl
-blank-held e (some es) = refl
+blank-held e None = refl
+blank-held e (Some es) = refl
 
-pub blank-run : (ss : List Sector) → onto Blank (run_of ss) ≡ if (all_blank ss) (some []) none
+pub blank-run : (ss : List Sector) → onto Blank (run_of ss) ≡ if (all_blank ss) (Some []) None
 unfolding run_of onto all_blank
 blank-run [] = refl
 blank-run (Blank ∷ ss) = blank-blank (run_of ss) ∙ blank-run ss
@@ -47,11 +47,11 @@ fold pick best [] = best
 fold pick best (e ∷ es) = fold pick (pick best e) es
 
 unfoldable pub close : (Entry → Bool) → (Found → Entry → Found) → Found → Option (List Entry) → Found
-close ok pick best none = Damage
-close ok pick best (some es) = if (every ok es) (fold pick best es) Damage
+close ok pick best None = Damage
+close ok pick best (Some es) = if (every ok es) (fold pick best es) Damage
 
 close-blank : (ok : Entry → Bool) (pick : Found → Entry → Found) (best : Found) (b : Bool)
-    → if b best Damage ≡ close ok pick best (if b (some []) none)
+    → if b best Damage ≡ close ok pick best (if b (Some []) None)
 unfolding close every fold
 close-blank ok pick best true = refl
 close-blank ok pick best false = refl
@@ -59,8 +59,8 @@ close-blank ok pick best false = refl
 close-held : (ok : Entry → Bool) (pick : Found → Entry → Found) (best : Found) (e : Entry) (r : Option (List Entry))
     → if (ok e) (close ok pick (pick best e) r) Damage ≡ close ok pick best (onto (Held e) r)
 unfolding close every fold onto
-close-held ok pick best e none = elim (ok e) as (λ b. if b Damage Damage ≡ Damage) [ true ↦ refl | false ↦ refl ]
-close-held ok pick best e (some es) =
+close-held ok pick best e None = elim (ok e) as (λ b. if b Damage Damage ≡ Damage) [ true ↦ refl | false ↦ refl ]
+close-held ok pick best e (Some es) =
     elim (ok e) as (λ b. if b (if (every ok es) (fold pick (pick best e) es) Damage) Damage ≡ if (b & every ok es) (fold pick (pick best e) es) Damage)
     [ true ↦ refl | false ↦ refl ]
 

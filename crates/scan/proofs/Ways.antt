@@ -1,7 +1,7 @@
 -- One bucket's scan gives the rules' turn there, or the last copy; and the log's scan the rules' root.
 use mathlib.Core.Path.{◌≡◌, refl, ap, sym, ◌∙◌}
 use mathlib.Core.Bool.{Bool, true, false}
-use mathlib.Core.Option.{Option, none, some}
+use Rattle.std.specs.Prelude.{Option, None, Some}
 use Prim.Native.Nat.{ℕ, zero, suc}
 use mathlib.Core.List.{List, [], ◌∷◌}
 use lib.Dec.{eqb}
@@ -30,8 +30,8 @@ way_on t x es arrived = way_of false (hit (copy_of x (left t es)))
 way_on t x es (down e) = Down e
 
 unfoldable pub way_in : ℕ → ℕ → ℕ → Option (List Entry) → Way
-way_in t x k none = Lost
-way_in t x k (some es) = way_on t x es (turn t x k es)
+way_in t x k None = Lost
+way_in t x k (Some es) = way_on t x es (turn t x k es)
 
 way-damage : (i : Bool) → way_of i Damage ≡ Lost
 unfolding way_of
@@ -40,8 +40,8 @@ way-damage false = refl
 
 way_down : (t x : ℕ) (es : List Entry) (r : Option Entry) → way_of true (hit r) ≡ way_on t x es (down_to r)
 unfolding way_of way_on hit down_to
-way_down t x es none = refl
-way_down t x es (some e) = refl
+way_down t x es None = refl
+way_down t x es (Some e) = refl
 
 same-lost : (q : Bool) → if q Lost Lost ≡ Lost
 same-lost true = refl
@@ -55,13 +55,13 @@ here : (t x : ℕ) (es : List Entry) → way_of false (hit (copy_of x (left t es
 unfolding way_on
 here t x es = refl
 
-lost-in : (t x k : ℕ) → Lost ≡ way_in t x k none
+lost-in : (t x k : ℕ) → Lost ≡ way_in t x k None
 unfolding way_in
 lost-in t x k = refl
 
 -- the tests of the header
 held-run : (k x t : ℕ) (h : Entry) (es : List Entry) (q v i : Bool) → eqb h.key k ≡ q → is_index h ≡ i
-    → if q (way_of i (if v (fold (pick i x t) Nothing (h ∷ es)) Damage)) Lost ≡ way_in t x k (if v (some (h ∷ es)) none)
+    → if q (way_of i (if v (fold (pick i x t) Nothing (h ∷ es)) Damage)) Lost ≡ way_in t x k (if v (Some (h ∷ es)) None)
 unfolding way_in turn
 held-run k x t h es q false i p j = rw (way-damage i) (same-lost q)
 held-run k x t h es false true i p j = rw p (lost t x (h ∷ es))
@@ -72,10 +72,10 @@ held-way : (k x t : ℕ) (h : Entry) (r : Option (List Entry))
     → if (eqb h.key k) (way_of (is_index h) (close (joins h) (pick (is_index h) x t) Nothing (onto (Held h) r))) Lost
     ≡ way_in t x k (and_then (onto (Held h) r) sound_bucket)
 unfolding close onto sound_bucket
-held-way k x t h none = rw (way-damage (is_index h)) (same-lost (eqb h.key k) ∙ lost-in t x k)
-held-way k x t h (some es) = held-run k x t h es (eqb h.key k) (every (joins h) (h ∷ es)) (is_index h) refl refl
+held-way k x t h None = rw (way-damage (is_index h)) (same-lost (eqb h.key k) ∙ lost-in t x k)
+held-way k x t h (Some es) = held-run k x t h es (eqb h.key k) (every (joins h) (h ∷ es)) (is_index h) refl refl
 
-blank-way : (t x k : ℕ) (b : Bool) → Lost ≡ way_in t x k (and_then (if b (some []) none) sound_bucket)
+blank-way : (t x k : ℕ) (b : Bool) → Lost ≡ way_in t x k (and_then (if b (Some []) None) sound_bucket)
 unfolding way_in sound_bucket
 blank-way t x k true = refl
 blank-way t x k false = refl
@@ -101,37 +101,37 @@ search-bucket h card x t (suc b) k =
 
 -- the root that a scan of the log found
 unfoldable pub root_of : Found → Option Entry
-root_of Damage = none
-root_of Nothing = none
-root_of (Hit e) = some e
+root_of Damage = None
+root_of Nothing = None
+root_of (Hit e) = Some e
 
 root-hit : (r : Option Entry) → root_of (hit r) ≡ r
 unfolding root_of hit
-root-hit none = refl
-root-hit (some e) = refl
+root-hit None = refl
+root-hit (Some e) = refl
 
 abbrev pub last_left : ℕ → List Entry → Option Entry
 last_left t es = last_of (left t es)
 
 log-run : (t : ℕ) (e : Entry) (es : List Entry) (v : Bool)
-    → root_of (if v (fold (pick_root t) Nothing (e ∷ es)) Damage) ≡ and_then (if v (some (e ∷ es)) none) (last_left t)
+    → root_of (if v (fold (pick_root t) Nothing (e ∷ es)) Damage) ≡ and_then (if v (Some (e ∷ es)) None) (last_left t)
 unfolding root_of
 log-run t e es true = rw (fold-root t (e ∷ es)) (root-hit (last_of (left t (e ∷ es))))
 log-run t e es false = refl
 
-root-damage : root_of Damage ≡ none
+root-damage : root_of Damage ≡ None
 unfolding root_of
 root-damage = refl
 
-root_none : (t : ℕ) → root_of (if (every is_root []) (fold (pick_root t) Nothing []) Damage) ≡ none
+root_none : (t : ℕ) → root_of (if (every is_root []) (fold (pick_root t) Nothing []) Damage) ≡ None
 unfolding root_of every fold
 root_none t = refl
 
 log-close : (t : ℕ) (r : Option (List Entry)) → root_of (close is_root (pick_root t) Nothing r) ≡ and_then (and_then r sound_log) (last_left t)
 unfolding close sound_log
-log-close t none = root-damage
-log-close t (some []) = root_none t
-log-close t (some (e ∷ es)) = log-run t e es (every is_root (e ∷ es))
+log-close t None = root-damage
+log-close t (Some []) = root_none t
+log-close t (Some (e ∷ es)) = log-run t e es (every is_root (e ∷ es))
 
 -- the scan of the log finds the last root entry left, where the log is sound and has one
 pub search-log : (h : Head) (card : List ℕ) (t : ℕ) → root_of (search_log t (sectors h.n card 1 h.n)) ≡ and_then (log h card) (last_left t)

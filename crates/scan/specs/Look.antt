@@ -1,6 +1,6 @@
 -- The walk with its counter, and the look, as the loops run.
 use Rattle.std.specs.Prelude.{ℕ, zero, suc, ◌+◌, ◌*◌, List, ltb, eqb, take, drop}
-use Rattle.std.proofs.Math.Option.{Option, none, some}
+use Rattle.std.specs.Prelude.{Option, None, Some}
 use Rattle.rules.specs.declared.Head.{Head}
 use Rattle.rules.specs.declared.Answer.{Answer}
 use Rattle.rules.specs.Answers.{refused, sheet}
@@ -51,15 +51,15 @@ trip_from h card x t (Hit e) = walk_scan h card x t h.n 0 e.value 0
 -- the answer to a look
 unfoldable pub told : ℕ → ℕ → Found → Answer
 told bib r Damage = refused 4
-told bib r Nothing = sheet bib r none
-told bib r (Hit e) = sheet bib r (standing (some e))
+told bib r Nothing = sheet bib r None
+told bib r (Hit e) = sheet bib r (standing (Some e))
 
 abbrev pub told_of : ℕ → Trip → Answer
 told_of bib w = told bib w.reads w.found
 
 unfoldable pub look_scan_in : ℕ → ℕ → List ℕ → Option Head → Answer
-look_scan_in bib t card none = refused 1
-look_scan_in bib t card (some h) =
+look_scan_in bib t card None = refused 1
+look_scan_in bib t card (Some h) =
     if (eqb bib 0) (refused 2) (if (ltb t (beginning card)) (refused 13) (told_of bib (trip_from h card bib t (search_log t (sectors h.n card 1 h.n)))))
 
 unfoldable pub look_scan : List ℕ → ℕ → ℕ → Answer

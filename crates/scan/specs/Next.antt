@@ -1,6 +1,6 @@
 -- Next as the loops run: the questions to one bucket, the walk that carries the least index key above, the rounds.
 use Rattle.std.specs.Prelude.{ℕ, zero, suc, Bool, true, false, List, [], ◌∷◌, leb, ltb, eqb}
-use Rattle.std.proofs.Math.Option.{Option, none, some}
+use Rattle.std.specs.Prelude.{Option, None, Some}
 use Rattle.rules.specs.declared.Entry.{Entry}
 use Rattle.rules.specs.declared.Head.{Head}
 use Rattle.rules.specs.declared.Answer.{Answer}
@@ -125,8 +125,8 @@ rounds h card k t zero x = ended
 rounds h card k t (suc f) x = after (leg h card k t x) (rounds h card k t f)
 
 unfoldable pub next_scan_in : ℕ → ℕ → List ℕ → Option Head → Answer
-next_scan_in k t card none = refused 1
-next_scan_in k t card (some h) = if (ltb t (beginning card)) (refused 13) (rounds h card k t 4294967296 k)
+next_scan_in k t card None = refused 1
+next_scan_in k t card (Some h) = if (ltb t (beginning card)) (refused 13) (rounds h card k t 4294967296 k)
 
 unfoldable pub next_scan : List ℕ → ℕ → ℕ → Answer
 next_scan card k t = next_scan_in k t card (head_of card)

@@ -2,7 +2,7 @@
 use mathlib.Core.Path.{◌≡◌, refl, ap, sym, ◌∙◌}
 use mathlib.Core.Bool.{Bool, true, false}
 use mathlib.Core.List.{List, [], ◌∷◌}
-use mathlib.Core.Option.{none, some}
+use Rattle.std.specs.Prelude.{None, Some}
 use Prim.Native.Nat.{ℕ, zero, suc, ◌+◌, ◌-◌, ◌<◌, ◌≤◌}
 use native.Mathlib.Omega.{arith}
 use borrow.Author.Tests.{eq-eqb, ne_eqb, lt-ltb, le-ltb}
@@ -29,8 +29,8 @@ tally_after n r = record { code = r.code; count = n + length r.records }
 pub count-start : (card : List ℕ) (at c bib : ℕ) → tally_after 0 (rolled card at (c - 0) bib) ≡ tally_of (rolled card at c bib)
 count-start card at c bib =
     let all : c - 0 ≡ c = omega arith in
-    let none : 0 + length (rolled card at c bib).records ≡ length (rolled card at c bib).records = omega arith in
-    rw (all, none)
+    let None : 0 + length (rolled card at c bib).records ≡ length (rolled card at c bib).records = omega arith in
+    rw (all, None)
 
 pub lay-start : (card : List ℕ) (at c bib : ℕ) (out : List ℕ) → puts out 0 (rolled card at (c - 0) bib).records ≡ puts out 0 (rolled card at c bib).records
 lay-start card at c bib out = let all : c - 0 ≡ c = omega arith in rw all
@@ -102,11 +102,11 @@ unfolding given
 given-none r z = rw (ne_eqb _ _ z)
 
 -- the head is asked first, and its beginning
-pub records-broken : (card : List ℕ) (at c bib : ℕ) → head_of card ≡ none → records_of card at c bib ≡ roll 1 []
+pub records-broken : (card : List ℕ) (at c bib : ℕ) → head_of card ≡ None → records_of card at c bib ≡ roll 1 []
 unfolding records_of records_in
 records-broken card at c bib e = rw e
 
-module _ (card : List ℕ) (at c bib : ℕ) (h : Head) (e : head_of card ≡ some h) where
+module _ (card : List ℕ) (at c bib : ℕ) (h : Head) (e : head_of card ≡ Some h) where
   pub records-early : at < beginning card → records_of card at c bib ≡ roll 13 []
   unfolding records_of records_in
   records-early lt = rw (e, lt-ltb at (beginning card) lt)

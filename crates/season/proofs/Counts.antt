@@ -49,7 +49,7 @@ over-third q c three =
 
 pub over-some : (q c : ℕ) → 1 ≤ q → 1 ≤ c → 1 ≤ over q c
 unfolding over
-over-some q c one some =
+over-some q c one Some =
     let e : c + (q - 1) ≡ q + (c - 1) = omega arith in
     let d : (q + (c - 1)) / q ≡ (c - 1) / q + 1 = add-div_left (c - 1) one in
     let f : (c + (q - 1)) / q ≡ (c - 1) / q + 1 = ap (λ (n : ℕ). n / q) e ∙ d in

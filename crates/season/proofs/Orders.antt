@@ -1,7 +1,7 @@
 -- The order of a season card's refusals.
 use mathlib.Core.Path.{◌≡◌, refl, ap, sym, ◌∙◌}
 use mathlib.Core.Bool.{true, false}
-use mathlib.Core.Option.{none, some}
+use Rattle.std.specs.Prelude.{None, Some}
 use mathlib.Core.List.{List}
 use Prim.Native.Nat.{ℕ, ◌+◌, ◌-◌, ◌≤◌, ◌<◌}
 use borrow.Author.Tests.{eq-eqb, ne_eqb, lt-ltb, le-ltb}
@@ -69,11 +69,11 @@ module _ (h : Head) (s : ℕ) (target : List ℕ) (r : Roll) where
         begun le = rw (q, z, eq-eqb r.code 0 c, last-is, le-ltb (h.n + 1) next le)
 
 module _ (card : List ℕ) (t : ℕ) (target : List ℕ) (n m td ti : ℕ) where
-  pub no-head : head_of card ≡ none → season card t target n m td ti ≡ refuse 1
+  pub no-head : head_of card ≡ None → season card t target n m td ti ≡ refuse 1
   unfolding season season_for
   no-head q = rw q
 
-  module _ (h : Head) (q : head_of card ≡ some h) where
+  module _ (h : Head) (q : head_of card ≡ Some h) where
     pub too-early : t < beginning card → season card t target n m td ti ≡ refuse 13
     unfolding season season_for refuse_if
     too-early lt = rw (q, lt-ltb t (beginning card) lt)

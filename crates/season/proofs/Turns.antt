@@ -55,7 +55,7 @@ pub record Rest (h : Head) (s q b c : ℕ) (R target : List ℕ) : Type 0 where
   pub fits : heap q f (b + c) c ≤ h.n + 1
   pub gives : tiers h s q f b c target ≡ R
 
-module _ (h : Head) (s q b c : ℕ) (R target : List ℕ) (three : 3 ≤ q) (some : 1 ≤ c) where
+module _ (h : Head) (s q b c : ℕ) (R target : List ℕ) (three : 3 ≤ q) (Some : 1 ≤ c) where
   pub rest-fits : Rest h s q b c R target → b + c + over q c ≤ h.n + 1
   rest-fits r = go r.f r.enough r.fits
     where
@@ -92,7 +92,7 @@ pub record Left (q next c : ℕ) (R : ℕ) : Type 0 where
   pub enough : c ≤ f
   pub gives : heap q f next c ≡ R
 
-module _ (q next c R : ℕ) (three : 3 ≤ q) (some : 1 ≤ c) where
+module _ (q next c R : ℕ) (three : 3 ≤ q) (Some : 1 ≤ c) where
   pub left_end : Left q next c R → over q c ≤ 1 → next + over q c ≡ R
   left_end l le = go l.f l.enough l.gives
     where

@@ -77,10 +77,10 @@ and-true false = refl
 pub four-end : (a b c d : List ℕ) (i top : ℕ) (w : Bool) → i ≡ length a → i ≡ length b → i ≡ length c → i ≡ length d
     → (eqb top 0 & four a b c d i) ≡ w → eqb top 0 ≡ w
 unfolding zeros
-four-end a b c d i top w ha hb hc hd inv = and-true (eqb top 0) ∙ (rw (none a ha, none b hb, none c hc, none d hd) at inv)
+four-end a b c d i top w ha hb hc hd inv = and-true (eqb top 0) ∙ (rw (None a ha, None b hb, None c hc, None d hd) at inv)
   where
-    none : (s : List ℕ) → i ≡ length s → zeros (drop i s) ≡ true
-    none s e = rw (e, drop-length)
+    None : (s : List ℕ) → i ≡ length s → zeros (drop i s) ≡ true
+    None s e = rw (e, drop-length)
 
 split : (q : ℕ) (s : List ℕ) → (zeros (take q s) & zeros (drop q s)) ≡ zeros s
 split q s = sym (zeros-append (take q s) (drop q s)) ∙ ap zeros (take-append-drop q s)

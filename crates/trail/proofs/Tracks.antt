@@ -2,7 +2,7 @@
 use mathlib.Core.Path.{◌≡◌, refl, ap, sym, ◌∙◌, subst}
 use mathlib.Core.Logic.{⊎_elim}
 use mathlib.Core.Bool.{true, false}
-use mathlib.Core.Option.{Option, none, some}
+use Rattle.std.specs.Prelude.{Option, None, Some}
 use mathlib.Core.List.{List, [], ◌∷◌}
 use Prim.Native.Nat.{ℕ, zero, suc, ◌+◌, ◌-◌, ◌≤◌, ◌<◌}
 use native.Mathlib.Omega.{arith}
@@ -34,20 +34,20 @@ use Rattle.trail.specs.Trail.{Track, track, track_on, track_scan, track_from, We
 
 -- the track of a path, below those that were met above it
 unfoldable pub track_in : ℕ → List ℕ → Option (List Visit) → Track
-track_in x above none = track [] Damage
-track_in x above (some p) = track (upward p above) (hit (copy_of x (left latest (data_of p))))
+track_in x above None = track [] Damage
+track_in x above (Some p) = track (upward p above) (hit (copy_of x (left latest (data_of p))))
 
 track-met : (x : ℕ) (above : List ℕ) (v : Visit) (q : Option (List Visit)) → Filled q → track_in x (v.number ∷ above) q ≡ track_in x above (met v q)
 unfolding track_in met data_of upward
-track-met x above v none f = refl
-track-met x above v (some []) f = absurd f
-track-met x above v (some (w ∷ p)) f = refl
+track-met x above v None f = refl
+track-met x above v (Some []) f = absurd f
+track-met x above v (Some (w ∷ p)) f = refl
 
 track-here : (x : ℕ) (above : List ℕ) (b : ℕ) (es : List Entry) (c : Option Entry) (on : ℕ → ℕ → Track)
     → track_on (way_of false (hit c)) (b ∷ above) on ≡ track (b ∷ above) (hit c)
 unfolding track_on way_of hit
-track-here x above b es none on = refl
-track-here x above b es (some e) on = refl
+track-here x above b es None on = refl
+track-here x above b es (Some e) on = refl
 
 go-track : (x : ℕ) (above : List ℕ) (b : ℕ) (es : List Entry) (u : Turn) (on : ℕ → ℕ → Track) (to : ℕ → ℕ → Option (List Visit))
     → ((c k : ℕ) → on c k ≡ track_in x (b ∷ above) (to c k)) → ((c k : ℕ) → Filled (to c k))
@@ -62,8 +62,8 @@ in-track : (x : ℕ) (above : List ℕ) (b k : ℕ) (rd : Option (List Entry)) (
     → ((c k : ℕ) → on c k ≡ track_in x (b ∷ above) (to c k)) → ((c k : ℕ) → Filled (to c k))
     → track_on (way_in latest x k rd) (b ∷ above) on ≡ track_in x above (go_in latest x b k rd to)
 unfolding way_in go_in track_on track_in
-in-track x above b k none on to ih f = refl
-in-track x above b k (some es) on to ih f = go-track x above b es (turn latest x k es) on to ih f
+in-track x above b k None on to ih f = refl
+in-track x above b k (Some es) on to ih f = go-track x above b es (turn latest x k es) on to ih f
 
 track-path : (h : Head) (card : List ℕ) (x f : ℕ) (above : List ℕ) (b k : ℕ) → track_scan h card x f above b k ≡ track_in x above (path (bucket h card) latest x f b k)
 unfolding track_scan path track_in
@@ -86,8 +86,8 @@ from-number h card x (suc b) = refl
 
 track-from : (h : Head) (card : List ℕ) (x : ℕ) (o : Option Entry) → track_from h card x (value_of o) ≡ track_in x [] (path_from (bucket h card) latest x h.n o)
 unfolding track_from path_from value_of track_in
-track-from h card x none = refl
-track-from h card x (some e) = from-number h card x e.value ∙ track-path h card x h.n [] e.value 0
+track-from h card x None = refl
+track-from h card x (Some e) = from-number h card x e.value ∙ track-path h card x h.n [] e.value 0
 
 -- from the log on
 pub track-walk : (h : Head) (card : List ℕ) (x : ℕ) → track_from h card x (root_now h card) ≡ track_in x [] (walk h card latest x)

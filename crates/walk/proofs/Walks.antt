@@ -1,7 +1,7 @@
 -- What the steps of a look say of the rule: the layout, the root, the answer.
 use mathlib.Core.Path.{◌≡◌, refl}
 use mathlib.Core.Logic.{⊎_elim}
-use mathlib.Core.Option.{Option, none, some}
+use Rattle.std.specs.Prelude.{Option, None, Some}
 use mathlib.Core.List.{List, [], ◌∷◌}
 use Prim.Native.Nat.{ℕ, ◌≤◌, ◌<◌}
 use native.Mathlib.Omega.{arith}
@@ -23,15 +23,15 @@ use Rattle.walk.specs.declared.Layout.TheVariants.{Broken, Sound}
 use Rattle.walk.specs.Heads.{layout_of}
 
 -- the layout taken apart
-pub broken-none : (o : Option Head) → layout_of o ≡ Broken → o ≡ none
+pub broken-none : (o : Option Head) → layout_of o ≡ Broken → o ≡ None
 unfolding layout_of
-broken-none none q = refl
-broken-none (some h) q = let z : ◌≡◌ {A = ℕ} 0 1 = cc in absurd (omega arith)
+broken-none None q = refl
+broken-none (Some h) q = let z : ◌≡◌ {A = ℕ} 0 1 = cc in absurd (omega arith)
 
-pub sound-some : (o : Option Head) (h : Head) → layout_of o ≡ Sound h → o ≡ some h
+pub sound-some : (o : Option Head) (h : Head) → layout_of o ≡ Sound h → o ≡ Some h
 unfolding layout_of
-sound-some none h q = let z : ◌≡◌ {A = ℕ} 0 1 = cc in absurd (omega arith)
-sound-some (some g) h q = cc
+sound-some None h q = let z : ◌≡◌ {A = ℕ} 0 1 = cc in absurd (omega arith)
+sound-some (Some g) h q = cc
 
 -- no root entry left
 pub no-root : (h : Head) (card : List ℕ) (x t : ℕ) (f : Found) → OneOf (0 ∷ 1 ∷ []) (tag_of the_type f) → trip 0 Damage ≡ trip_from h card x t f
@@ -40,11 +40,11 @@ no-root h card x t Damage p = refl
 no-root h card x t Nothing p = refl
 no-root h card x t (Hit e) p = ⊎_elim (λ a. absurd (omega arith)) (λ b. absurd (omega arith)) p
 
-pub look-broken : (card : List ℕ) (bib t : ℕ) → head_of card ≡ none → refused 1 ≡ look card bib t
+pub look-broken : (card : List ℕ) (bib t : ℕ) → head_of card ≡ None → refused 1 ≡ look card bib t
 unfolding look look_in
 look-broken card bib t q = rw q
 
-module _ (card : List ℕ) (bib t : ℕ) (h : Head) (q : head_of card ≡ some h) where
+module _ (card : List ℕ) (bib t : ℕ) (h : Head) (q : head_of card ≡ Some h) where
   pub look-zero : bib ≡ 0 → refused 2 ≡ look card bib t
   unfolding look look_in
   look-zero z = rw (q, eq-eqb bib 0 z)

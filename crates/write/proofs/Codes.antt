@@ -2,7 +2,7 @@
 use mathlib.Core.Path.{◌≡◌, refl, ap, sym, ◌∙◌}
 use mathlib.Core.Logic.{⊎_elim}
 use mathlib.Core.Bool.{Bool, true, false, not}
-use mathlib.Core.Option.{Option, none, some}
+use Rattle.std.specs.Prelude.{Option, None, Some}
 use mathlib.Core.List.{List, []}
 use Prim.Native.Nat.{ℕ, zero, suc, ◌<◌}
 use native.Mathlib.Omega.{arith}
@@ -37,8 +37,8 @@ coded (suc c) p = refuse (suc c)
 module _ (e : Entry) (p : Plan) where
   stand-coded : (cp : Option Entry) → refuse_if (not (is_post e) & is_none (standing cp)) 5 p ≡ coded (code_of e.kind (hit cp)) p
   unfolding refuse_if is_post is_none standing code_of hit
-  stand-coded none = ⊎_elim (λ (t : eqb e.kind 1 ≡ true). rw t) (λ (t : eqb e.kind 1 ≡ false). rw t) (bool_cases (eqb e.kind 1))
-  stand-coded (some d) =
+  stand-coded None = ⊎_elim (λ (t : eqb e.kind 1 ≡ true). rw t) (λ (t : eqb e.kind 1 ≡ false). rw t) (bool_cases (eqb e.kind 1))
+  stand-coded (Some d) =
       ⊎_elim (λ (t : eqb e.kind 1 ≡ true). rw t)
       (λ (t : eqb e.kind 1 ≡ false). ⊎_elim (λ (u : eqb d.kind 1 ≡ true). rw (t, u)) (λ (u : eqb d.kind 1 ≡ false). rw (t, u)) (bool_cases (eqb d.kind 1)))
       (bool_cases (eqb e.kind 1))
@@ -46,10 +46,10 @@ module _ (e : Entry) (p : Plan) where
 at-coded : (h : Head) (card : List ℕ) (e : Entry) (o : Option (List Visit))
     → plan_at h card e o ≡ coded (code_of e.kind (track_in e.key [] o).found) (plan_on h card e (path_or o))
 unfolding plan_at track_in code_of stands_on
-at-coded h card e none = refl
-at-coded h card e (some p) = stand-coded e (plan_on h card e p) (copy_of e.key (left latest (data_of p)))
+at-coded h card e None = refl
+at-coded h card e (Some p) = stand-coded e (plan_on h card e p) (copy_of e.key (left latest (data_of p)))
 
-none-code : (kind x : ℕ) → code_of kind (track_in x [] none).found ≡ 4
+none-code : (kind x : ℕ) → code_of kind (track_in x [] None).found ≡ 4
 unfolding code_of track_in
 none-code kind x = refl
 
@@ -76,17 +76,17 @@ module _ (h : Head) (card : List ℕ) (e : Entry) (f : Found) (c : ℕ) (is : f 
   unfolding walked
   at-came z = go (walk h card latest e.key) (sym (says ∙ ap (code_of e.kind) is) ∙ z)
     where
-      go : (o : Option (List Visit)) → code_of e.kind (track_in e.key [] o).found ≡ 0 → o ≡ some (path_or o)
-      go none q = absurd (four-zero (sym (none-code e.kind e.key) ∙ q))
-      go (some p) q = refl
+      go : (o : Option (List Visit)) → code_of e.kind (track_in e.key [] o).found ≡ 0 → o ≡ Some (path_or o)
+      go None q = absurd (four-zero (sym (none-code e.kind e.key) ∙ q))
+      go (Some p) q = refl
 
 -- the order of a write's refusals
 module _ (card : List ℕ) (e : Entry) where
-  pub no-head : head_of card ≡ none → plan card e ≡ refuse 1
+  pub no-head : head_of card ≡ None → plan card e ≡ refuse 1
   unfolding plan plan_for
   no-head q = rw q
 
-  module _ (h : Head) (q : head_of card ≡ some h) where
+  module _ (h : Head) (q : head_of card ≡ Some h) where
     -- 2 and 14, by the entry's flaw
     pub flawed : (c : ℕ) → c ≡ flaw_of e → (c ≡ 0 → ⊥) → plan card e ≡ refuse c
     unfolding plan plan_for

@@ -1,6 +1,6 @@
 -- What a walk's end has against an entry, the path of a walk that came to data, and what a path that was tried gives.
 use Rattle.std.specs.Prelude.{ℕ, ◌+◌, ◌≤◌, ◌<◌, true, false, ◌≡◌, List, [], ◌∷◌, eqb, ltb, length, drop}
-use Rattle.std.proofs.Math.Option.{Option, none, some}
+use Rattle.std.specs.Prelude.{Option, None, Some}
 use Rattle.rules.specs.declared.Head.{Head}
 use Rattle.rules.specs.declared.Entry.{Entry}
 use Rattle.rules.specs.Plain.{if, ◌&◌, ◌or◌}
@@ -25,18 +25,18 @@ code_of kind Nothing = if (eqb kind 1) 0 5
 code_of kind (Hit e) = if (eqb kind 1) 0 (if (eqb e.kind 1) 0 5)
 
 abbrev pub path_or : Option (List Visit) → List Visit
-path_or none = []
-path_or (some p) = p
+path_or None = []
+path_or (Some p) = p
 
 unfoldable pub walked : Head → List ℕ → ℕ → List Visit
 walked h card x = path_or (walk h card latest x)
 
 abbrev pub Came : Head → List ℕ → ℕ → Type 0
-Came h card x = walk h card latest x ≡ some (walked h card x)
+Came h card x = walk h card latest x ≡ Some (walked h card x)
 
 -- what is known where a write begins: the head, the entry, which can be written, the highest bucket used and the root
 pub record Begins (h : Head) (card : List ℕ) (task : Task) : Type 0 where
-  pub head : head_of card ≡ some h
+  pub head : head_of card ≡ Some h
   pub fine : Fine h.n task.entry
   pub used : task.used ≡ top_used h card h.n
   pub root : task.root ≡ root_now h card

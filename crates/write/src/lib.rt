@@ -2,7 +2,7 @@
 #![tactic(auto)]
 
 ghost use Rattle.std.specs.Prelude.{◌≡◌, false, List, [], ◌∷◌, ℕ, ◌+◌, ◌-◌, ◌≤◌, ltb, eqb, length};
-ghost use Rattle.std.proofs.Math.Option.{some};
+ghost use Rattle.std.specs.Prelude.{Some};
 ghost use Rattle.rules.specs.declared.Entry.{Entry};
 ghost use Rattle.rules.specs.Plain.{if, ◌&◌, ◌or◌};
 ghost use Rattle.rules.specs.Layout.{head_of};
@@ -22,7 +22,7 @@ use walk::Layout;
 
 // Whether the log has no blank sector.
 fn log_full(card: &[u8], head: Head) -> bool
-    requires { Shape head card.now × ((es : List Entry) × (log head card.now ≡ some es)) }
+    requires { Shape head card.now × ((es : List Entry) × (log head card.now ≡ Some es)) }
     ensures { result ≡ eqb (length (log_blanks head card.now)) 0 }
 {
     let n = head.n;
@@ -32,7 +32,7 @@ fn log_full(card: &[u8], head: Head) -> bool
 
 // Whether more fresh buckets are needed than remain, or a new root has no room in the log.
 fn too_full(card: &[u8], head: Head, needs: Needs) -> bool
-    requires { Shape head card.now × ((es : List Entry) × (log head card.now ≡ some es)) }
+    requires { Shape head card.now × ((es : List Entry) × (log head card.now ≡ Some es)) }
     ensures { result ≡ (ltb (head.n + 1) needs.fresh or (needs.root & eqb (length (log_blanks head card.now)) 0)) }
 {
     if head.n + 1 < needs.fresh {
@@ -263,7 +263,7 @@ fn early(code: u32) -> Entered
 
 // An entry on a card whose head was read. Of the card's stamps it is asked only whether the entry's own comes too late.
 pub fn enter_on(card: &mut [u8], head: Head, e: Entry) -> Entered
-    requires { (head_of card.old ≡ some head) × Asks e }
+    requires { (head_of card.old ≡ Some head) × Asks e }
     ensures { Began result head card.old card.new (plan card.old e) }
 {
     let flaw = sector::flaw_of(e);

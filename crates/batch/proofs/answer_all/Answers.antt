@@ -17,8 +17,8 @@ pub returns-then-count-eq0 : goal.returns-then-count-eq0
 unfolding card_of answers_to requests_in
 returns-then-count-eq0 c =
     let a = c.args in
-    let none : length a.answers.now ≡ 0 = c.if-count-eq0.true in
-    record { card_after = rw none; answers_after = rw none (none-asked a.answers.now none) }
+    let None : length a.answers.now ≡ 0 = c.if-count-eq0.true in
+    record { card_after = rw None; answers_after = rw None (none-asked a.answers.now None) }
 
 pub begin-first-requires : goal.begin-first-requires
 begin-first-requires c =
@@ -51,10 +51,10 @@ returns-then-alone c =
     let one : length a.answers.now ≡ 1 = omega (arith, c.if-alone.true) in
     let requests = a.requests.now in
     let lt : 0 < length a.answers.now = omega arith in
-    let none : length a.answers.now - 1 ≡ 0 = omega arith in
+    let None : length a.answers.now - 1 ≡ 0 = omega arith in
     let cards = all-cards requests a.card.now a.answers.now lt [] c.begin-first.result.code c.begin-first.new.card b.code b.bytes in
-    let answers = all-answers requests a.card.now a.answers.now lt [] c.begin-first.result.code c.begin-first.new.card b.code b.bytes (rw none) in
-    record { card_after = rw none at cards; answers_after = all-answered (set a.answers.now 0 c.begin-first.result.code) 1 _ (simp length-set (omega arith)) answers }
+    let answers = all-answers requests a.card.now a.answers.now lt [] c.begin-first.result.code c.begin-first.new.card b.code b.bytes (rw None) in
+    record { card_after = rw None at cards; answers_after = all-answered (set a.answers.now 0 c.begin-first.result.code) 1 _ (simp length-set (omega arith)) answers }
 
 pub known_after-known-requires : goal.known_after-known-requires
 known_after-known-requires c =

@@ -1,6 +1,6 @@
 -- `batch::batch` equals the rule for every card and all lent bytes.
 use mathlib.Core.Path.{◌≡◌, sym, ap, ◌∙◌}
-use mathlib.Core.Option.{some}
+use Rattle.std.specs.Prelude.{Some}
 use lib.ListN.{length}
 use Rattle.rules.specs.Layout.{head_of}
 use Rattle.rules.specs.Batch.{Batch, paired}
@@ -15,14 +15,14 @@ unfolding paired
 pairs q = q.is_paired.ensures
 
 -- the head that was read is the card's
-head-met : (q : In-Sound) → head_of q.args.card.now ≡ some q.in-Sound.head
+head-met : (q : In-Sound) → head_of q.args.card.now ≡ Some q.in-Sound.head
 head-met q = sound-some _ _ (sym q.read_head-layout.ensures ∙ q.in-Sound.is)
 
 pub returns-in_default : goal.returns-in_default
 returns-in_default c =
     let a = c.args in
-    let none = broken-none _ (sym c.read_head-layout.ensures ∙ c.in_default.is) in
-    let is = one_by_one a.card.now a.requests.now a.answers.now (sym (pairs (goal.at.returns-in_default c).After-is_paired) ∙ c.if-is_paired.true) in record { value = sym (ap (λ (b : Batch). b.code) is); card_after = sym (ap (λ (b : Batch). b.card) is ∙ card-none a.card.now a.requests.now 0 (length a.answers.now) none); answers_after = c.refuse_all.ensures ∙ sym (ap (λ (b : Batch). b.answers) is ∙ answers-none a.card.now a.requests.now 0 (length a.answers.now) none) }
+    let None = broken-none _ (sym c.read_head-layout.ensures ∙ c.in_default.is) in
+    let is = one_by_one a.card.now a.requests.now a.answers.now (sym (pairs (goal.at.returns-in_default c).After-is_paired) ∙ c.if-is_paired.true) in record { value = sym (ap (λ (b : Batch). b.code) is); card_after = sym (ap (λ (b : Batch). b.card) is ∙ card-none a.card.now a.requests.now 0 (length a.answers.now) None); answers_after = c.refuse_all.ensures ∙ sym (ap (λ (b : Batch). b.answers) is ∙ answers-none a.card.now a.requests.now 0 (length a.answers.now) None) }
 
 pub answer_all-requires : goal.answer_all-requires
 answer_all-requires c =

@@ -49,5 +49,5 @@ returns c =
     let n = length c.args.answers.now in
     let requests = c.args.requests.now in
     let at-end : l.i ≡ n = omega (arith, c.loop-i-test.false, l.invariant.1, l.invariant.2) in
-    let none = none_left requests l.i n at-end in
-    record { card_after = rw none at l.invariant.6; answers_after = all-answered l.answers l.i _ (omega (arith, c.loop-i-test.false)) (rw none at l.invariant.7) }
+    let None = none_left requests l.i n at-end in
+    record { card_after = rw None at l.invariant.6; answers_after = all-answered l.answers l.i _ (omega (arith, c.loop-i-test.false)) (rw None at l.invariant.7) }

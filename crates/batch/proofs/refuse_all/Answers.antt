@@ -26,5 +26,5 @@ pub returns : goal.returns
 returns c =
     let l = c.loop-i in
     let n = length c.args.answers.now in
-    let none : n - l.i ≡ 0 = omega (arith, c.loop-i-test.false, l.invariant.1) in
-    all-answered l.answers l.i _ c.loop-i-test.false (rw none at l.invariant.2)
+    let None : n - l.i ≡ 0 = omega (arith, c.loop-i-test.false, l.invariant.1) in
+    all-answered l.answers l.i _ c.loop-i-test.false (rw None at l.invariant.2)

@@ -25,8 +25,8 @@ pub returns-then-end-eq0 : goal.returns-then-end-eq0
 unfolding written last_first
 returns-then-end-eq0 c =
     let a = c.args in
-    let none = back_end a.n c.loop-end.end a.part.now (omega (arith, c.if-end-eq0.true)) in
-    (search rules, rw none at c.loop-end.invariant.1)
+    let None = back_end a.n c.loop-end.end a.part.now (omega (arith, c.if-end-eq0.true)) in
+    (search rules, rw None at c.loop-end.invariant.1)
 
 pub returns-else-blank_at : goal.returns-else-blank_at
 returns-else-blank_at c = (search rules, rw c.if-blank_at.false at (turn_at (goal.at.returns-else-blank_at c).After-blank_at))

@@ -57,5 +57,5 @@ pub returns : goal.returns
 returns c =
     let a = c.args in
     let l = c.loop-i in
-    let none : drop l.i a.path.now ≡ [] = drop_of_length-le a.path.now {i = l.i} (search rules) in
-    c.over.ensures ∙ ap needs_of (sym (ap (λ (bs : List ℕ). count_on a.head a.stamp a.card.now bs (tally (sent_list l.sent) l.next)) none ∙ count_none a.head a.stamp a.card.now _) ∙ l.invariant.5)
+    let None : drop l.i a.path.now ≡ [] = drop_of_length-le a.path.now {i = l.i} (search rules) in
+    c.over.ensures ∙ ap needs_of (sym (ap (λ (bs : List ℕ). count_on a.head a.stamp a.card.now bs (tally (sent_list l.sent) l.next)) None ∙ count_none a.head a.stamp a.card.now _) ∙ l.invariant.5)

@@ -33,5 +33,5 @@ returns-else-room c =
     let e : Entry = root_entry a.stamp a.root in
     let lg = log-reads a.head a.card.now c.requires.1.0 c.requires.0 c.requires.1.1 in
     let is : c.used-used.result ≡ lg.count = c.used-used.ensures.1 ∙ ap (λ (p : List ℕ). used_of 0 p 0 a.head.n) c.log_part.ensures.0 ∙ lg.used in
-    let none : a.head.n - lg.count ≡ 0 = omega (arith, c.if-room.false) in
-    sym (ap (λ (l : List ℕ). fill a.card.now l (e ∷ [])) (lg.blank ∙ ap (up_from (1 + lg.count)) none))
+    let None : a.head.n - lg.count ≡ 0 = omega (arith, c.if-room.false) in
+    sym (ap (λ (l : List ℕ). fill a.card.now l (e ∷ [])) (lg.blank ∙ ap (up_from (1 + lg.count)) None))

@@ -1,7 +1,7 @@
 -- `history::history` meets its contract: each way out is a clause of the rule.
 use borrow.Author.Rules.{rules}
 use mathlib.Core.Path.{◌≡◌, refl, ap, sym, ◌∙◌}
-use mathlib.Core.Option.{some}
+use Rattle.std.specs.Prelude.{Some}
 use native.Mathlib.Omega.{arith}
 use Rattle.rules.specs.Layout.{head_of}
 use Rattle.laws.proofs.Heads.{head-fits}
@@ -20,7 +20,7 @@ returns-in_default c =
     rw (told-broken a.card.now a.bib a.at _ (broken-none _ (sym c.read_head-layout.ensures ∙ c.in_default.is))) record { value = refl; out_after = refl }
 
 -- the head that was read
-head_at : (q : In-Sound) → head_of q.args.card.now ≡ some q.in-Sound.head
+head_at : (q : In-Sound) → head_of q.args.card.now ≡ Some q.in-Sound.head
 head_at q = sound-some _ _ (sym q.read_head-layout.ensures ∙ q.in-Sound.is)
 
 pub returns-then-bib-eq0 : goal.returns-then-bib-eq0

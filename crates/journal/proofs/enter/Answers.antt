@@ -1,6 +1,6 @@
 -- `journal::enter` follows the rule's plan for an entry.
 use mathlib.Core.Path.{◌≡◌, sym, ◌∙◌}
-use mathlib.Core.Option.{some}
+use Rattle.std.specs.Prelude.{Some}
 use mathlib.Core.List.{List}
 use native.Mathlib.Omega.{arith}
 use Rattle.rules.specs.declared.Entry.{Entry}
@@ -16,7 +16,7 @@ use Rattle.journal.proofs.enter.Goals.{In-Sound}
 -- the entries that were read
 held_at : (q : In-Sound) →
     let a = q.args in
-    (es : List Entry) × (journal a.slice.now ≡ some es) × (q.in-Sound.pass ≡ pass_of a.e.key latest es)
+    (es : List Entry) × (journal a.slice.now ≡ Some es) × (q.in-Sound.pass ≡ pass_of a.e.key latest es)
 held_at q =
     let a = q.args in
     sound-some a.e.key latest _ _ (sym q.read-reading.ensures ∙ q.in-Sound.is)
@@ -24,8 +24,8 @@ held_at q =
 pub returns-in_default : goal.returns-in_default
 returns-in_default c =
     let a = c.args in
-    let none = broken-none a.e.key latest _ (sym c.read-reading.ensures ∙ c.in_default.is) in
-    let f = refuses _ a.slice.now _ 1 (not-journal a.slice.now a.e none) c.refusal.ensures in
+    let None = broken-none a.e.key latest _ (sym c.read-reading.ensures ∙ c.in_default.is) in
+    let f = refuses _ a.slice.now _ 1 (not-journal a.slice.now a.e None) c.refusal.ensures in
     record { value = f.answer; slice_after = f.bytes }
 
 pub returns-then-code-ne0 : goal.returns-then-code-ne0

@@ -1,6 +1,6 @@
 -- `journal::next` equals the rule for every slice.
 use mathlib.Core.Path.{◌≡◌, ap, sym, ◌∙◌}
-use mathlib.Core.Option.{some}
+use Rattle.std.specs.Prelude.{Some}
 use mathlib.Core.List.{List}
 use Rattle.rules.specs.declared.Entry.{Entry}
 use Rattle.rules.specs.Journal.{journal, journal_next, journal_next_in}
@@ -20,7 +20,7 @@ returns-in_default c =
 -- the entries that were read
 held_at : (q : In-Sound) →
     let a = q.args in
-    (es : List Entry) × (journal a.slice.now ≡ some es) × (q.in-Sound.pass ≡ pass_of a.bib a.at es)
+    (es : List Entry) × (journal a.slice.now ≡ Some es) × (q.in-Sound.pass ≡ pass_of a.bib a.at es)
 held_at q =
     let a = q.args in
     sound-some a.bib a.at _ _ (sym q.read-reading.ensures ∙ q.in-Sound.is)

@@ -3,7 +3,7 @@ use borrow.Author.Rules.{rules}
 use mathlib.Core.Path.{◌≡◌, refl}
 use native.Mathlib.Omega.{arith}
 use lib.ListN.{length}
-use Rattle.hand.proofs.Turns.{none}
+use Rattle.hand.proofs.Turns.{None}
 use Rattle.level.proofs.Turns.{puts-turn, puts-end, small-turn}
 use Rattle.level.proofs.write_run.Goals as goal
 use Rattle.level.proofs.write_run.Goals.{Start}
@@ -26,7 +26,7 @@ loop-j-preserved c =
       search rules,
       search rules,
       search rules,
-      (small-turn a.h.entries none a.to l.j l.invariant.3 (search rules) (omega (arith, hand-long (goal.at.loop-j-preserved c).Start))).1,
+      (small-turn a.h.entries None a.to l.j l.invariant.3 (search rules) (omega (arith, hand-long (goal.at.loop-j-preserved c).Start))).1,
       puts-turn a.h.entries _ a.to _ l.card _ l.i l.j c.write_entry.ensures l.invariant.4 (search rules) (omega (arith, hand-long (goal.at.loop-j-preserved c).Start)),
     )
 

@@ -1,6 +1,6 @@
 -- `scroll::records` meets its contract: 1 where the head is broken, 13 before its beginning, else a page.
 use mathlib.Core.Path.{◌≡◌, refl, sym, ◌∙◌}
-use mathlib.Core.Option.{some}
+use Rattle.std.specs.Prelude.{Some}
 use native.Mathlib.Omega.{arith}
 use Rattle.rules.specs.declared.Head.{Head}
 use Rattle.rules.specs.Layout.{head_of}
@@ -16,7 +16,7 @@ returns-in_default c =
     rw (records-broken a.card.now a.at _ a.bib (broken-none _ (sym c.read_head-layout.ensures ∙ c.in_default.is))) record { value = refl; out_after = refl }
 
 -- the card has a head
-head_at : (q : In-Sound) → (h : Head) × (head_of q.args.card.now ≡ some h)
+head_at : (q : In-Sound) → (h : Head) × (head_of q.args.card.now ≡ Some h)
 head_at q = (q.in-Sound.field-0, sound-some _ _ (sym q.read_head-layout.ensures ∙ q.in-Sound.is))
 
 pub beginning-requires : goal.beginning-requires

@@ -1,6 +1,6 @@
 -- `season::season` equals the rule for every card, target and number.
 use mathlib.Core.Path.{◌≡◌, ap, sym, ◌∙◌}
-use mathlib.Core.Option.{some}
+use Rattle.std.specs.Prelude.{Some}
 use native.Mathlib.Omega.{arith}
 use Rattle.rules.specs.declared.Head.{Head}
 use Rattle.rules.specs.Layout.{head_of}
@@ -13,7 +13,7 @@ use Rattle.season.proofs.season.Goals as goal
 use Rattle.season.proofs.season.Goals.{In-Sound}
 
 -- the source has a head
-head_at : (q : In-Sound) → (h : Head) × (head_of q.args.card.now ≡ some h)
+head_at : (q : In-Sound) → (h : Head) × (head_of q.args.card.now ≡ Some h)
 head_at q = (q.in-Sound.field-0, sound-some _ _ (sym q.read_head-layout.ensures ∙ q.in-Sound.is))
 
 pub returns-in_default : goal.returns-in_default

@@ -16,6 +16,6 @@ pub returns : goal.returns
 returns c =
     let a = c.args in
     let kept = take a.s.used a.room.now in
-    let some : 0 < length kept = omega (arith, length-take-le a.s.used a.room.now (omega arith)) in
+    let Some : 0 < length kept = omega (arith, length-take-le a.s.used a.room.now (omega arith)) in
     let k = c.respond-last.ensures in
-    (k.out_after ∙ sym (last-said (take a.s.len a.card.now) kept some), k.room.2)
+    (k.out_after ∙ sym (last-said (take a.s.len a.card.now) kept Some), k.room.2)

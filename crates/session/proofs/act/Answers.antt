@@ -29,8 +29,8 @@ returns-then-len-eq0 c =
     let k = c.first_format in
     let parse = c.parse-q.ensures in
     let line = parsed a.line.now in
-    let none : bench_done (take 0 a.card.now) line ≡ bench_done (take a.len a.card.now) line = rw c.if-len-eq0.true in
-    record { room = k.ensures.room; answer_after = k.ensures.answer_after ∙ no-card line _ _ _ _ (sym parse ∙ c.in-Format.is) ∙ none }
+    let None : bench_done (take 0 a.card.now) line ≡ bench_done (take a.len a.card.now) line = rw c.if-len-eq0.true in
+    record { room = k.ensures.room; answer_after = k.ensures.answer_after ∙ no-card line _ _ _ _ (sym parse ∙ c.in-Format.is) ∙ None }
 
 pub returns : goal.returns
 unfolding bench_line
@@ -40,5 +40,5 @@ returns c =
     let a = c.args in
     let card = take a.len a.card.now in
     let whole = length-take-le a.len a.card.now (omega (arith, c.requires.inside, c.requires.long)) in
-    let some : 0 < length card = omega (arith, whole, c.if-len-eq0.false) in
-    record { room = k.ensures.room; answer_after = k.ensures.answer_after ∙ ap (done_on card) (sym c.in-Format.is ∙ parse) ∙ card-there card (parsed a.line.now) some }
+    let Some : 0 < length card = omega (arith, whole, c.if-len-eq0.false) in
+    record { room = k.ensures.room; answer_after = k.ensures.answer_after ∙ ap (done_on card) (sym c.in-Format.is ∙ parse) ∙ card-there card (parsed a.line.now) Some }

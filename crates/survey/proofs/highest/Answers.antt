@@ -32,5 +32,5 @@ pub returns : goal.returns
 unfolding top_used
 returns c =
     let l = c.loop-b in
-    let none : l.b ≡ 0 = omega arith in
-    ap (top_used c.args.head c.args.card.now) (sym none) ∙ l.invariant.1
+    let None : l.b ≡ 0 = omega arith in
+    ap (top_used c.args.head c.args.card.now) (sym None) ∙ l.invariant.1

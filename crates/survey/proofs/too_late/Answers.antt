@@ -22,5 +22,5 @@ returns-then-passed c =
 pub returns : goal.returns
 returns c =
     let a = c.args in
-    let none = c.passed.ensures c.if-passed.false in
-    sym (lt-leb a.at (top_stamp a.card.now (1 + a.head.n) (a.last * a.head.m)) (omega (arith, none, span a.card.now _ _ _ c.behind-to.ensures.0, c.if-at-eq0.false)))
+    let None = c.passed.ensures c.if-passed.false in
+    sym (lt-leb a.at (top_stamp a.card.now (1 + a.head.n) (a.last * a.head.m)) (omega (arith, None, span a.card.now _ _ _ c.behind-to.ensures.0, c.if-at-eq0.false)))

@@ -26,7 +26,7 @@ pub returns-then-seen : goal.returns-then-seen
 returns-then-seen c =
     let a = c.args in
     let l = c.loop-i in
-    let some = from_less a.card.now a.from a.to (l.i - 1) (omega arith) (omega arith) in
+    let Some = from_less a.card.now a.from a.to (l.i - 1) (omega arith) (omega arith) in
     (omega (arith, one_more (goal.at.returns-then-seen c).After-later-top), λ less. omega (arith, c.if-seen.true))
 
 pub loop-i-preserved : goal.loop-i-preserved

@@ -1,6 +1,6 @@
 -- `write::enter` follows the rule's plan for an entry.
 use mathlib.Core.Path.{◌≡◌, sym, ◌∙◌}
-use mathlib.Core.Option.{some}
+use Rattle.std.specs.Prelude.{Some}
 use Rattle.rules.specs.Layout.{head_of}
 use Rattle.walk.proofs.Walks.{broken-none, sound-some}
 use Rattle.laws.proofs.Follows.{refuses}
@@ -9,14 +9,14 @@ use Rattle.write.proofs.enter.Goals as goal
 use Rattle.write.proofs.enter.Goals.{In-Sound}
 
 -- the head that was read is the card's
-head-met : (q : In-Sound) → head_of q.args.card.now ≡ some q.in-Sound.head
+head-met : (q : In-Sound) → head_of q.args.card.now ≡ Some q.in-Sound.head
 head-met q = sound-some _ _ (sym q.read_head-layout.ensures ∙ q.in-Sound.is)
 
 pub returns-in_default : goal.returns-in_default
 returns-in_default c =
     let a = c.args in
-    let none = broken-none _ (sym c.read_head-layout.ensures ∙ c.in_default.is) in
-    let f = refuses _ a.card.now _ 1 (no-head a.card.now a.e none) c.refusal.ensures in
+    let None = broken-none _ (sym c.read_head-layout.ensures ∙ c.in_default.is) in
+    let f = refuses _ a.card.now _ 1 (no-head a.card.now a.e None) c.refusal.ensures in
     record { value = f.answer; card_after = f.bytes }
 
 pub enter_on-entered-requires : goal.enter_on-entered-requires
