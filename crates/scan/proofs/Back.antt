@@ -1,20 +1,16 @@
 -- The pass from the last sector down gives what the scan from the first on gives; and its turns, as the code has the numbers.
 use mathlib.Core.Path.{◌≡◌, refl, ap, sym, ◌∙◌}
 use mathlib.Core.Bool.{Bool, true, false}
-use mathlib.Core.Logic.{⊎_elim}
 use Prim.Native.Nat.{ℕ, zero, suc, ◌+◌, ◌-◌, ◌<◌}
 use native.Mathlib.Omega.{arith}
 use mathlib.Core.List.{List, [], ◌∷◌, reverse_aux}
 use lib.ListN.{take, drop}
-use types.Run.{OneOf}
-use denote.Enum.Declared.{tag_of}
 use Rattle.std.specs.Prelude.{Option, None, Some, Ok}
 use Rattle.rules.specs.declared.Entry.{Entry}
 use Rattle.rules.specs.declared.Sector.{Sector}
 use Rattle.rules.specs.declared.Sector.TheVariants.{Blank, Held, Damaged}
 use Rattle.rules.specs.Plain.{if, ◌&◌, zeros}
 use Rattle.rules.specs.Sector.{sector_at, decode, fields, legal}
-use Rattle.rules.specs.contracts.Sector.{the_type}
 use Rattle.laws.proofs.Tools.{true-false}
 use Rattle.scan.specs.Scan.{Found, damaged, sectors, all_blank, scan_in}
 use Rattle.scan.specs.Back.{last_first, written, holds, sound, first_in}
@@ -140,14 +136,14 @@ pass-turn n i part blank w h d inv =
 
 -- no entry, as an else has it
 module _ (ok : Entry → Bool) where
-  pub no-entry : (s : Sector) → OneOf (0 ∷ 2 ∷ []) (tag_of the_type s) → false ≡ holds ok s
+  pub no-entry : (s : Sector) → ((e : Entry) → s ≡ Held e → ⊥) → false ≡ holds ok s
   unfolding holds
   no-entry Blank p = refl
-  no-entry (Held e) p = ⊎_elim (λ a. absurd (omega arith)) (λ c. absurd (omega arith)) p
+  no-entry (Held e) p = absurd (p e refl)
   no-entry Damaged p = refl
 
   module _ (want : Entry → Bool) where
-    pub no-entry-first : (s : Sector) (l : List Sector) → OneOf (0 ∷ 2 ∷ []) (tag_of the_type s) → damaged ≡ first_in ok want (s ∷ l)
+    pub no-entry-first : (s : Sector) (l : List Sector) → ((e : Entry) → s ≡ Held e → ⊥) → damaged ≡ first_in ok want (s ∷ l)
     unfolding sound
     no-entry-first s l p = sym (unsound-first ok want (s ∷ l) (ap (λ (b : Bool). b & sound ok l) (sym (no-entry s p))))
 

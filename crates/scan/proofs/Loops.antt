@@ -1,14 +1,11 @@
 -- The turns of the loops, as the code has the numbers: what each way out of a turn says of the whole scan.
 use mathlib.Core.Path.{◌≡◌, refl, ap, sym, ◌∙◌, subst}
-use mathlib.Core.Bool.{Bool, false}
-use mathlib.Core.Logic.{⊎_elim}
+use mathlib.Core.Bool.{Bool, true, false}
 use Prim.Native.Nat.{ℕ, suc, ◌+◌, ◌-◌, ◌≤◌, ◌<◌}
 use native.Mathlib.Omega.{arith}
 use native.Mathlib.Numerals.{add-one}
 use mathlib.Core.List.{List, [], ◌∷◌}
 use borrow.Author.Tests.{eq-eqb, ne_eqb}
-use types.Run.{OneOf}
-use denote.Enum.Declared.{tag_of}
 use Rattle.std.specs.Prelude.{Option, None, Some, Result, Ok, Err}
 use Rattle.rules.specs.declared.refusal.Damage.{Damage}
 use Rattle.rules.specs.declared.Entry.{Entry}
@@ -17,11 +14,10 @@ use Rattle.rules.specs.declared.Sector.{Sector}
 use Rattle.rules.specs.declared.Sector.TheVariants.{Blank, Held, Damaged}
 use Rattle.rules.specs.Bucket.{joins}
 use Rattle.rules.specs.Sector.{sector_at, decode, is_index}
-use Rattle.rules.specs.contracts.Sector.{the_type}
 use Rattle.scan.specs.declared.Way.{Way}
 use Rattle.scan.specs.declared.Way.TheVariants.{Down, End}
 use Rattle.scan.specs.declared.Trip.{Trip}
-use Rattle.scan.specs.Scan.{damaged, sectors, scan_in, pick, way_of, search}
+use Rattle.scan.specs.Scan.{Found, damaged, sectors, all_blank, scan_in, pick, way_of, search}
 use Rattle.scan.specs.Look.{search_at, trip, onward, walk_scan}
 use Rattle.scan.specs.declared.Leg.{Leg}
 use Rattle.scan.specs.Next.{pick_up, weigh, stand_in, sectors_of, leg_of, stride, leg_scan}
@@ -49,24 +45,16 @@ pub sectors-turn : {A : Type 0} (g : List Sector → A) (n m i : ℕ) (b : List 
     → s ≡ decode n (sector_at b i) → g (sectors n b i (m - i)) ≡ w → g (s ∷ sectors n b (i + 1) (m - (i + 1))) ≡ w
 sectors-turn g n m i b s w h d inv = rw (sectors-step n m i b h, ← d) at inv
 
--- neither an entry nor blank, as the two elses have it
-pub damaged-at : (ok : Entry → Bool) (pick : Option Entry → Entry → Option Entry) (best : Option Entry) (s : Sector) (l : List Sector)
-    → OneOf (0 ∷ 2 ∷ []) (tag_of the_type s) → OneOf (1 ∷ 2 ∷ []) (tag_of the_type s) → damaged ≡ scan_in ok pick (s ∷ l) best
-unfolding scan_in
-damaged-at ok pick best Blank l p q = ⊎_elim (λ a. absurd (omega arith)) (λ c. absurd (omega arith)) q
-damaged-at ok pick best (Held e) l p q = ⊎_elim (λ a. absurd (omega arith)) (λ c. absurd (omega arith)) p
-damaged-at ok pick best Damaged l p q = refl
-
 -- the header, read before the loop
-first-other-kind : (k x t : ℕ) (s : Sector) (l : List Sector) → OneOf (0 ∷ 2 ∷ []) (tag_of the_type s) → damaged ≡ search k x t (s ∷ l)
+first-other-kind : (k x t : ℕ) (s : Sector) (l : List Sector) → ((e : Entry) → s ≡ Held e → ⊥) → damaged ≡ search k x t (s ∷ l)
 unfolding search
 first-other-kind k x t Blank l p = refl
-first-other-kind k x t (Held e) l p = ⊎_elim (λ a. absurd (omega arith)) (λ c. absurd (omega arith)) p
+first-other-kind k x t (Held e) l p = absurd (p e refl)
 first-other-kind k x t Damaged l p = refl
 
 module _ (k x t n m : ℕ) (b : List ℕ) (s : Sector) (h : 4 ≤ m) (d : s ≡ decode n (sector_at b 0)) where
   -- no entry at the start
-  pub first-none : OneOf (0 ∷ 2 ∷ []) (tag_of the_type s) → damaged ≡ search k x t (sectors n b 0 m)
+  pub first-none : ((e : Entry) → s ≡ Held e → ⊥) → damaged ≡ search k x t (sectors n b 0 m)
   first-none p = rw (sectors-first n m b h, ← d) (first-other-kind k x t s (sectors n b 1 (m - 1)) p)
 
   -- another header than the key followed
@@ -113,3 +101,34 @@ leg-turn h card k x t r b j up s w lt said inv =
 pub leg-out : (h : Head) (card : List ℕ) (k x t r b j : ℕ) (up : Option Entry) (w : Result Leg Damage) → r ≡ h.n → leg_scan h card k x t (h.n - r) up b j ≡ w → damaged ≡ w
 unfolding leg_scan
 leg-out h card k x t r b j up w e inv = let z : h.n - r ≡ 0 = omega arith in rw z at inv
+
+-- a scan from sector i of m on, which gives w: what the sector there says of w
+module _ (ok : Entry → Bool) (pick : Option Entry → Entry → Option Entry) (best : Option Entry) (n m i : ℕ) (b : List ℕ) (w : Found)
+    (inv : scan_in ok pick (sectors n b i (m - i)) best ≡ w) where
+  -- there is none
+  pub scan-end : m ≤ i → Ok best ≡ w
+  unfolding scan_in
+  scan-end h = rw (sectors-end n m i b h) at inv
+
+  met : i < m → (s : Sector) → s ≡ decode n (sector_at b i) → scan_in ok pick (s ∷ sectors n b (i + 1) (m - (i + 1))) best ≡ w
+  met h s is = sectors-turn (λ l. scan_in ok pick l best) n m i b s w h is inv
+
+  pub scan-held : i < m → (e : Entry) → Held e ≡ decode n (sector_at b i) → true ≡ ok e → scan_in ok pick (sectors n b (i + 1) (m - (i + 1))) (pick best e) ≡ w
+  unfolding scan_in
+  scan-held h e is fits = rw (← fits) at (met h (Held e) is)
+
+  pub scan-misfit : i < m → (e : Entry) → Held e ≡ decode n (sector_at b i) → false ≡ ok e → damaged ≡ w
+  unfolding scan_in
+  scan-misfit h e is not = rw (← not) at (met h (Held e) is)
+
+  pub scan-blank : i < m → Blank ≡ decode n (sector_at b i) → true ≡ all_blank (sectors n b (i + 1) (m - (i + 1))) → Ok best ≡ w
+  unfolding scan_in
+  scan-blank h is behind = rw (← behind) at (met h Blank is)
+
+  pub scan-hole : i < m → Blank ≡ decode n (sector_at b i) → false ≡ all_blank (sectors n b (i + 1) (m - (i + 1))) → damaged ≡ w
+  unfolding scan_in
+  scan-hole h is behind = rw (← behind) at (met h Blank is)
+
+  pub scan-damage : i < m → Damaged ≡ decode n (sector_at b i) → damaged ≡ w
+  unfolding scan_in
+  scan-damage h is = met h Damaged is
