@@ -1,8 +1,8 @@
 // The buckets and the log of a card, as parts of it, and the search of one of them.
 #![tactic(auto)]
 
-ghost use Rattle.std.specs.Prelude.{◌≡◌, ◌+◌, ◌-◌, ◌*◌, ◌≤◌, ◌<◌, length, drop, true, false, None};
-ghost use Rattle.rules.specs.Layout.{base};
+ghost use Rattle.std.specs.Prelude.{◌≡◌, ◌+◌, ◌-◌, ◌*◌, ◌≤◌, ◌<◌, length, drop, true, false, None, MatchResult};
+ghost use Rattle.rules.specs.Layout.{base, beginning};
 ghost use Rattle.rules.specs.Sector.{is_root, decode, sector_at};
 ghost use Rattle.scan.specs.Scan.{sectors, all_blank, scan_in, pick, pick_root, search, search_log};
 ghost use Rattle.scan.specs.Back.{last_first, written, holds, sound};
@@ -12,7 +12,7 @@ ghost use Rattle.bucket.specs.Shapes.{Shape};
 
 pub mod picks;
 
-use rules::{Damage, Entry, Head, Sector};
+use rules::{Damage, Entry, Head, Refusal, Sector};
 use scan::{Found, Way};
 
 // A card whose head was read: it has the length that its head asks for.
@@ -24,6 +24,23 @@ pub struct Card<'a> {
 }
 
 impl<'a> Card<'a> {
+    // The stamp that the card begins with.
+    pub fn beginning(&self) -> u32
+        ensures { result ≡ beginning self.now.bytes.now }
+    {
+        sector::read_word(sector::bytes(self.bytes, 0), 8)
+    }
+
+    // A question as of an earlier stamp is refused.
+    pub fn as_of(&self, at: u32) -> Result<(), Refusal>
+        ensures { MatchResult result (λ _. beginning self.now.bytes.now ≤ at) (λ r. (r ≡ Refusal.TooEarly) × (at < beginning self.now.bytes.now)) }
+    {
+        if at < self.beginning() {
+            return Err(Refusal::TooEarly);
+        }
+        Ok(())
+    }
+
     // The bytes from bucket b to the card's end.
     pub fn from_bucket(&self, b: u32) -> &'a [u8]
         requires { (1 ≤ b) × (b ≤ self.now.head.n) }
