@@ -17,7 +17,7 @@ loop-e-smaller c =
 
 pub loop-e-preserved : goal.loop-e-preserved
 loop-e-preserved c =
-    let again = strike-next is_data (sectors c.args.n c.args.part.now 0 c.args.m) c.requires.2 c.loop-e.x c.args.t _ _ c.least.ensures c.in-Some.is (sym c.is_post-posted.ensures ∙ c.if-posted.false) in
+    let again = strike-next is_data (sectors c.args.n c.args.part.now 0 c.args.m) c.requires.2 c.loop-e.x c.args.t _ _ c.least.ensures c.in-Some.is (sym c.if-posted.ensures) in
     (search rules, sym again ∙ c.loop-e.invariant.1)
 
 pub returns : goal.returns
@@ -25,7 +25,7 @@ returns c = none-next is_data (sectors c.args.n c.args.part.now 0 c.args.m) c.re
 
 pub returns-then-posted : goal.returns-then-posted
 returns-then-posted c =
-    post-next is_data (sectors c.args.n c.args.part.now 0 c.args.m) c.requires.2 c.loop-e.x c.args.t _ _ c.least.ensures c.in-Some.is (sym c.is_post-posted.ensures ∙ c.if-posted.true) ∙ c.loop-e.invariant.1
+    post-next is_data (sectors c.args.n c.args.part.now 0 c.args.m) c.requires.2 c.loop-e.x c.args.t _ _ c.least.ensures c.in-Some.is (sym c.if-posted.ensures) ∙ c.loop-e.invariant.1
 
 pub loop-e-init : goal.loop-e-init
 loop-e-init c = (search rules, refl)
