@@ -4,7 +4,7 @@ use mathlib.Core.Logic.{◌⊎◌, inl, inr, ⊎_elim}
 use mathlib.Core.Bool.{Bool, true, false}
 use Prim.Native.Nat.{ℕ, ◌≤◌, ◌<◌}
 use lib.Dec.{leb, eqb}
-use Rattle.std.specs.Prelude.{Option, None, Some}
+use Rattle.std.specs.Prelude.{Option, None, Some, Ok, Err, ok_or}
 use native.Mathlib.Omega.{arith}
 use borrow.Author.Tests.{leb-true, leb-false, eqb-true, eqb-false}
 use Rattle.rules.specs.Plain.{if, ◌&◌, and_then}
@@ -47,3 +47,12 @@ none-some e = let z : ◌≡◌ {A = ℕ} 0 1 = cc in omega arith
 pub then-inv : {A B : Type 0} (a : Option A) (f : A → Option B) (b : B) → and_then a f ≡ Some b → (x : A) × (a ≡ Some x) × (f x ≡ Some b)
 then-inv None f b e = absurd (none-some e)
 then-inv (Some x) f b e = (x, refl, e)
+
+-- an Option that was asked for as a Result
+pub or-ok : {A E : Type 0} (o : Option A) (r : E) (x : A) → ok_or o r ≡ Ok x → o ≡ Some x
+or-ok None r x q = let z : ◌≡◌ {A = ℕ} 0 1 = cc in absurd (omega arith)
+or-ok (Some y) r x q = cc
+
+pub or-err : {A E : Type 0} (o : Option A) (r e : E) → ok_or o r ≡ Err e → (e ≡ r) × (o ≡ None)
+or-err None r e q = (cc, refl)
+or-err (Some y) r e q = let z : ◌≡◌ {A = ℕ} 0 1 = cc in absurd (omega arith)

@@ -1,10 +1,15 @@
--- `walk::head::beginning` reads bytes 8..11 of the head.
+-- `bucket::Card::beginning` reads bytes 8..11 of the head.
 use mathlib.Core.Path.{ap, ◌∙◌}
 use mathlib.Core.List.{List}
 use Prim.Native.Nat.{ℕ}
+use native.Mathlib.Omega.{arith}
 use Rattle.rules.specs.Sector.{word}
 use Rattle.rules.specs.Layout.{beginning}
-use Rattle.walk.proofs.head.beginning.Goals as goal
+use Rattle.bucket.proofs.Room.{log-room}
+use Rattle.bucket.proofs.Card.beginning.Goals as goal
+
+pub bytes-requires : goal.bytes-requires
+bytes-requires c = let h = log-room _ _ c.args.self.now.shape in omega arith
 
 pub returns : goal.returns
 unfolding beginning
