@@ -1,8 +1,6 @@
 -- What is known of the bytes that a reader has left and of those that a writer holds, from one part of the input to the next.
-use Rattle.std.specs.Prelude.{◌≡◌, ℕ, ◌<◌, ◌+◌, List, [], ◌∷◌, ◌++◌, length, ⊤, None, Some, IfSome, Ok, Err, OnOk, true}
+use Rattle.std.specs.Prelude.{◌≡◌, ℕ, ◌<◌, ◌+◌, List, [], ◌∷◌, ◌++◌, length, ⊤, None, Some, IfSome}
 use Rattle.std.specs.declared.option.Option.{Option}
-use Rattle.std.specs.declared.result.Result.{Result}
-use Rattle.std.specs.Result.{is_ok}
 use Rattle.std.specs.Io.KnownBytes.{Appends, Consumes, IsAtEnd}
 use mathlib.Core.Path.{refl, sym, ap, ◌∙◌}
 use mathlib.Core.List.{append_assoc, append-nil}
@@ -10,14 +8,8 @@ use native.Mathlib.Numerals.{add-one}
 use lib.ListN.{drop, get_or}
 use lib.Seq.{drop-cons}
 use Rattle.rules.specs.Bench.{bench}
-use Rattle.laws.proofs.Tools.{true-false}
 use Rattle.serve.specs.Feeds.{Fed, fed_to, byte_on, fed, heard, last_heard, said, told}
 use Rattle.serve.proofs.Sessions.{told-bench}
-
--- what a call that returned `Ok` promised
-pub had : {T E P : Type 0} (r : Result T E) → is_ok r ≡ true → OnOk r P → P
-had (Ok x) t p = p
-had (Err e) t p = absurd (true-false (sym t))
 
 -- a writer that is to hold `all` behind what it held has `left` still to come
 abbrev pub Still : Option (List ℕ) → Option (List ℕ) → List ℕ → List ℕ → Type 0
@@ -58,6 +50,11 @@ abbrev pub Along : Option (List ℕ) → Option (List ℕ) → Option (List ℕ)
 Along None left before now card kept = ⊤
 Along (Some input) None before now card kept = ⊥
 Along (Some input) (Some rest) before now card kept = Still before now (told [] [] input) (told card kept rest)
+
+pub along-start : (input before : Option (List ℕ)) (card kept : List ℕ) → card ≡ [] → kept ≡ [] → Along input input before before card kept
+along-start None before card kept e q = tt
+along-start (Some xs) None card kept e q = tt
+along-start (Some xs) (Some ys) card kept e q = rw (e, q)
 
 pub along-on : (input left onward before now next : Option (List ℕ)) (card kept bs new line : List ℕ) → Along input left before now card kept → Consumes left onward bs
     → Appends now next (said card kept bs) → fed_to new line ≡ fed card kept bs → Along input onward before next new line
