@@ -36,13 +36,6 @@ numbers-step name names line = field-first (behind name line) (λ x rest. and_th
 abbrev pub Along : List (Bor (List ℕ)) → List ℕ → List ℕ → ℕ → List ℕ → Type 0
 Along names line found i rest = numbers (texts names) line ≡ and_then (numbers (texts (drop i names)) rest) (λ xs. some (take i found ++ xs))
 
-and_then-none : (o : Option (List ℕ)) → o ≡ and_then o (λ xs. some ([] ++ xs))
-and_then-none none = refl
-and_then-none (some xs) = refl
-
-pub along-start : (names : List (Bor (List ℕ))) (line found : List ℕ) → Along names line found 0 line
-along-start names line found = and_then-none (numbers (texts names) line)
-
 joined : (front : List ℕ) (v : ℕ) (o : Option (List ℕ))
     → and_then (and_then o (λ xs. some (v ∷ xs))) (λ xs. some (front ++ xs)) ≡ and_then o (λ xs. some ((front ++ (v ∷ [])) ++ xs))
 joined front v none = refl

@@ -92,6 +92,7 @@ fn numbers<const N: usize>(line: &[u8], names: &[&[u8]]) -> Option<[u32; N]>
     rest.is_empty().then_some(found)
 }
 
+// The grammar's rows have a function each: what they share is `numbers`.
 fn format_line(line: &[u8]) -> Option<Request>
     ensures { asked result ≡ and_then (numbers format_names line.now) (four format_call) }
 {

@@ -9,7 +9,7 @@ use arrayvec::ArrayString;
 use itoa::Buffer;
 use rules::Answer;
 
-// A name and its number, behind what the line has.
+// A name and its number, behind what the line has. Not by `write!`, whose contract says what it wrote only where it says `Ok`.
 fn field(line: &mut ArrayString<96>, name: &str, x: u32)
     requires { array_string_len line.old + length name.now + 10 ≤ 96 }
     ensures bytes { line.new.bytes ≡ line.old.bytes ++ (name.now ++ decimal x) }

@@ -17,6 +17,7 @@ pub fn run<R: Read, W: Write>(from: &mut R, to: &mut W) -> io::Result<()>
     ensures told { OnOk result (IfSome (R.remaining from.old) (λ input. Appends (W.contents to.old) (W.contents to.new) (bench input))) }
 {
     let mut buf = [0u8; 4096];
+    // Made in place: a `new` would hand the whole buffer back by value.
     let mut bench = Bench {
         card: [0; 65536],
         len: 0,

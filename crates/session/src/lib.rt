@@ -20,6 +20,7 @@ pub struct Acted {
 }
 
 // A request that is not the first format, on the card alone.
+#[tactic(auto, unfolding(rules::specs::Calls::called, rules::specs::Calls::planned, rules::specs::Calls::answered))]
 fn call(card: &mut [u8], request: Request) -> Answer
     ensures { answered card.new result ≡ called card.old (call_of request) }
 {
@@ -75,7 +76,8 @@ fn first_format(card: &mut [u8], buckets: u32, sectors: u32, td: u32, ti: u32) -
     }
 }
 
-// One line on the card that is the buffer's first `len` bytes; 0 where there is none yet.
+// One line on the card that is the buffer's first `len` bytes; 0 where there is none yet. Buffer and length are no struct with
+// `Room` as its invariant: `act` may not ask its callers for a narrower type.
 pub fn act(card: &mut [u8], len: usize, line: &[u8]) -> Acted
     requires { Room card.old len }
     ensures room { Room card.new result.len }

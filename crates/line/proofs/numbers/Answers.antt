@@ -1,12 +1,9 @@
 -- `line::numbers` reads the fields as the rules do.
 use native.Mathlib.Omega.{arith}
-use lib.ListN.{replicate, length-replicate, length-set}
-use mathlib.Core.Path.{◌∙◌, sym}
-use Rattle.line.proofs.Fields.{along-start, along-missing, along-more, along-end}
+use lib.ListN.{length-set}
+use mathlib.Core.Path.{◌∙◌}
+use Rattle.line.proofs.Fields.{along-missing, along-more, along-end}
 use Rattle.line.proofs.numbers.Goals as goal
-
-pub loop-i-init : goal.loop-i-init
-loop-i-init g c = record { room = length-replicate g.row.N 0 ∙ sym c.requires; along = along-start c.args.names.now c.args.line.now (replicate g.row.N 0) }
 
 pub returns-in_err-value : goal.returns-in_err-value
 returns-in_err-value g c =

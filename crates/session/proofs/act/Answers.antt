@@ -17,9 +17,6 @@ returns-in_default-clause-answer_after c =
     let card = take c.args.len c.args.card.now in
     ap (answered card) c.refusal.ensures ∙ ap (bench_done card) c.in_default.ensures
 
-pub first_format-requires : goal.first_format-requires
-first_format-requires c = rw c.if-len-eq0.true at c.requires
-
 pub returns-in-Format-clause-answer_after : goal.returns-in-Format-clause-answer_after
 unfolding bench_line bench_done bench_call
 returns-in-Format-clause-answer_after c =

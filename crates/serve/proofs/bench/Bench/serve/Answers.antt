@@ -3,11 +3,8 @@ use Prim.Native.Nat.{◌<◌}
 use native.Mathlib.Omega.{arith}
 use lib.ListN.{length}
 use Rattle.std.proofs.lemmas.Result.{on_ok_weaker}
-use Rattle.serve.proofs.Known.{along-start, along-on, along-done}
+use Rattle.serve.proofs.Known.{along-on, along-done}
 use Rattle.serve.proofs.bench.Bench.serve.Goals as goal
-
-pub loop-init : goal.loop-init
-loop-init g c = along-start _ _ _ _ (rw c.requires.0) c.requires.1
 
 pub returns-then-n-eq0 : goal.returns-then-n-eq0
 returns-then-n-eq0 g c =
