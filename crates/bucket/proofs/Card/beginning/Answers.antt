@@ -13,4 +13,4 @@ bytes-requires c = let h = log-room _ _ c.args.self.now.shape in omega arith
 
 pub returns : goal.returns
 unfolding beginning
-returns c = c.read_word.ensures ∙ ap (λ (s : List ℕ). word s 8) c.bytes.ensures.0
+returns c = c.read_word.ensures ∙ ap (λ (s : List ℕ). word s 8) c.bytes.ensures
