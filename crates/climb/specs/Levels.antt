@@ -11,8 +11,6 @@ use Rattle.rules.specs.Write.{place_if, rooted}
 use Rattle.laws.proofs.Buckets.{raw}
 use Rattle.bucket.specs.Shapes.{Shape}
 use Rattle.level.specs.Level.{sent_list, pairs_of, need_of, AllSmall}
-use Rattle.hand.specs.Hand.{held}
-use Rattle.hand.specs.declared.Hand.{Hand}
 use Rattle.climb.specs.declared.Renewed.{Renewed}
 use Rattle.climb.specs.declared.Needs.{Needs}
 
@@ -101,14 +99,6 @@ AllRead h card (b ∷ bs) = Read h card b × AllRead h card bs
 abbrev pub AllBelow : ℕ → List ℕ → Type 0
 AllBelow f [] = Unit {0}
 AllBelow f (b ∷ bs) = (b < f) × AllBelow f bs
-
--- a hand that is es, with a kind of one byte in each entry
-pub record Holds (es : List Entry) (h : Hand) : Type 0 where
-  pub count : h.count ≡ length (held h)
-  pub long : length h.entries ≡ 34
-  pub most : h.count ≤ 34
-  pub all : held h ≡ es
-  pub small : AllSmall (held h)
 
 -- what a level that is rewritten to hold es hands on
 pub record HandsOn (s td fresh : ℕ) (es : List Entry) (r : Renewed) : Type 0 where

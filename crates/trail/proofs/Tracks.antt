@@ -1,23 +1,20 @@
 -- The track of a write is the rule's walk: its buckets in the order of the way up. A turn of its loop.
 use mathlib.Core.Path.{◌≡◌, refl, ap, sym, ◌∙◌, subst}
-use mathlib.Core.Bool.{true, false}
 use Rattle.std.specs.Prelude.{Option, None, Some, Result, Ok, Err}
 use Rattle.rules.specs.declared.refusal.Damage.{Damage}
 use mathlib.Core.List.{List, [], ◌∷◌}
 use Prim.Native.Nat.{ℕ, zero, suc, ◌+◌, ◌-◌, ◌≤◌, ◌<◌}
 use native.Mathlib.Omega.{arith}
-use lib.ListN.{length, drop, set, length-set, drop_of_length-le}
+use lib.ListN.{length, drop, set, length-set}
 use lib.Seq.{drop-cons, drop-set-lt, get_or-set_same}
 use Rattle.rules.specs.declared.Entry.{Entry}
 use Rattle.rules.specs.declared.Head.{Head}
-use Rattle.laws.proofs.Tools.{false-true}
 use Rattle.laws.proofs.Roots.{value_of, root_now}
 use Rattle.rules.specs.Plain.{and_then}
 use Rattle.rules.specs.Bucket.{bucket, log}
 use Rattle.rules.specs.Walk.{Visit, Turn, broken, arrived, down, left, copy_of, turn, met, go, go_in, path, path_from, walk, data_of}
 use Rattle.rules.specs.Write.{latest}
 use Rattle.scan.specs.declared.Way.{Way}
-use Rattle.scan.specs.declared.Way.TheVariants.{End}
 use Rattle.scan.specs.Scan.{damaged, sectors, search_log}
 use Rattle.scan.specs.Look.{search_at}
 use Rattle.scan.proofs.Parts.{root-found}
