@@ -1,5 +1,5 @@
 -- What a walk's end has against an entry, the path of a walk that came to data, and what a path that was tried gives.
-use Rattle.std.specs.Prelude.{ℕ, ◌+◌, ◌≤◌, ◌<◌, Bool, true, false, ◌≡◌, Option, None, Some, Result, Ok, Err, List, [], ◌∷◌, eqb, ltb, length, drop}
+use Rattle.std.specs.Prelude.{ℕ, ◌+◌, ◌≤◌, ◌<◌, Bool, false, ◌≡◌, Option, None, Some, Result, Ok, Err, List, [], ◌∷◌, eqb, ltb, length, drop}
 use Rattle.rules.specs.declared.Head.{Head}
 use Rattle.rules.specs.declared.Entry.{Entry}
 use Rattle.rules.specs.declared.refusal.Refusal.{Refusal}
