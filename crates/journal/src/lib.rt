@@ -1,12 +1,12 @@
 // A plain journal: accepted entries in arrival order on a lent slice of sectors, read through for each question.
 #![tactic(auto)]
 
-ghost use Rattle.std.specs.Prelude.{◌≡◌, ◌+◌, ◌-◌, ◌*◌, ◌≤◌, ◌<◌, length, true, None};
+ghost use Rattle.std.specs.Prelude.{◌≡◌, ◌*◌, ◌≤◌, length, true, None};
 ghost use Rattle.rules.specs.Answers.{result_of};
 ghost use Rattle.rules.specs.Journal.{journal, journal_plan, journal_post, journal_strike, journal_look, journal_next};
 ghost use Rattle.rules.specs.Write.{plan_answer, plan_card};
 ghost use Rattle.laws.proofs.Entries.{Asks};
-ghost use Rattle.scan.specs.Scan.{sectors, all_blank};
+ghost use Rattle.scan.specs.Scan.{sectors};
 ghost use Rattle.scan.specs.Next.{above_at, weigh, runs, stand_in};
 ghost use Rattle.rules.specs.Sector.{is_data};
 ghost use Rattle.journal.specs.Passes.{read_scan, reading_of};
@@ -21,14 +21,6 @@ pub struct Pass {
     pub used: usize,
     pub last: u32,
     pub copy: Option<Entry>,
-}
-
-// Whether all sectors behind sector i are blank: they are not decoded, their bytes are asked at one go.
-fn blank_behind(slice: &[u8], count: usize, i: usize) -> bool
-    requires { (length slice.now ≡ 16 * count) × (i < count) }
-    ensures { result ≡ all_blank (sectors 0 slice.now (i + 1) (count - (i + 1))) }
-{
-    sector::all_zero(&slice[16 * i + 16..])
 }
 
 // The one pass of post, strike and look, and the judging one of next. Only the place of the copy is carried from turn to turn.
@@ -47,7 +39,7 @@ fn pass_over(slice: &[u8], count: usize, x: u32, t: u32) -> Result<Pass, Refusal
                 last = e.stamp;
                 place = if copy { used } else { place };
             }
-            Sector::Blank if blank_behind(slice, count, i) => break,
+            Sector::Blank if bucket::blank_behind(slice, 0, count, i) => break,
             _ => return Err(Refusal::Layout),
         }
     }
