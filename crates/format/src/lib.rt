@@ -10,6 +10,7 @@ ghost use Rattle.rules.specs.Format.{or_else, meant, formatted, format_for, form
 
 use rules::{Answer, Entry, Head, Refusal};
 
+// A number, or what stands for it where it is 0.
 #[tactic(auto, unfolding(rules::specs::Format::or_else))]
 fn or_else(x: usize, other: usize) -> usize
     ensures { result ≡ or_else x other }
@@ -47,6 +48,7 @@ fn lay_out(card: &mut [u8], head: Head)
     writer::write_entry(card, second, Entry::strike(0, 0));
 }
 
+// The card laid out, or what refuses it: first the geometry, whether or not the card is blank.
 #[tactic(auto, unfolding(rules::specs::Format::format_for, rules::specs::Write::refuse_if))]
 fn format_for(card: &mut [u8], head: Head) -> Result<(), Refusal>
     ensures { MatchResult result (λ _. format_for card.old head ≡ accept card.new) (λ r. (format_for card.old head ≡ refuse (number r)) × (card.new ≡ card.old)) }

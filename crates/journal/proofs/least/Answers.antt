@@ -39,9 +39,6 @@ loop-i-preserved c =
       | else-lower w ↦ (omega (arith, w.best-is, l.invariant.0), rw (w.low-is, w.best-is) l.invariant.1, on.0, rw w.best-is (rw w.if-lower.false at more))
     ]
 
-pub entry_at-requires : goal.entry_at-requires
-entry_at-requires c = let l = c.loop-i in omega (arith, l.invariant.0, l.auto.i-end, c.requires.0)
-
 pub returns : goal.returns
 unfolding weigh
 returns c =

@@ -26,9 +26,6 @@ loop-i-preserved c =
       | else-copy w ↦ (refl, omega (arith, w.place-is, l.invariant.1), rw w.place-is (rw w.if-copy.false at more))
     ]
 
-pub entry_at-copy-requires : goal.entry_at-copy-requires
-entry_at-copy-requires c = omega (arith, c.loop-i.invariant.1, c.loop-i.auto.i-end, c.requires)
-
 pub returns : goal.returns
 returns c =
     let a = c.args in

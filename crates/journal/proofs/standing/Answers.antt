@@ -1,6 +1,6 @@
 -- The bib that stands next above x is the one that stands next above k; x rises.
 use borrow.Author.Rules.{rules}
-use mathlib.Core.Path.{refl, sym, ◌∙◌}
+use mathlib.Core.Path.{sym, ◌∙◌}
 use native.Mathlib.Omega.{arith}
 use Rattle.rules.specs.Sector.{is_data}
 use Rattle.scan.specs.Scan.{sectors}
@@ -23,6 +23,3 @@ returns c = none-next is_data (sectors 0 c.args.slice.now 0 c.args.used) c.requi
 pub returns-then-posted : goal.returns-then-posted
 returns-then-posted c =
     post-next is_data (sectors 0 c.args.slice.now 0 c.args.used) c.requires.1 c.loop-e.x c.args.t _ _ c.least.ensures c.in-Some.is (sym c.if-posted.ensures) ∙ c.loop-e.invariant.1
-
-pub loop-e-init : goal.loop-e-init
-loop-e-init c = (search rules, refl)
