@@ -15,7 +15,7 @@ abbrev pub Found : Type 0
 Found = Result (Option Entry) Damage
 
 abbrev pub damaged : {A : Type 0} → Result A Damage
-damaged = Err (record { })
+damaged = Err (record {})
 
 -- the c sectors from sector i of some bytes, on a card of n buckets
 unfoldable pub sectors : ℕ → List ℕ → ℕ → ℕ → List Sector
