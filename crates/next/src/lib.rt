@@ -3,10 +3,11 @@
 
 ghost use Rattle.std.specs.Prelude.{◌≡◌, ◌≤◌, true, None, Ok};
 ghost use Rattle.rules.specs.Sector.{is_index, is_data};
-ghost use Rattle.rules.specs.Answers.{answer, result_of};
+ghost use Rattle.rules.specs.Answers.{answer};
 ghost use Rattle.rules.specs.Next.{next};
 ghost use Rattle.scan.specs.Scan.{sectors, search_log};
 ghost use Rattle.scan.specs.Next.{pick_up, weigh, runs, stand_in, sectors_of, leg_of, leg_scan, rounds};
+ghost use Rattle.next.specs.Found.{told, Above};
 
 mod asks;
 pub mod picks;
@@ -68,23 +69,38 @@ pub fn given(e: Entry) -> Answer
     }
 }
 
+// What C is told: the record, the end, or the refusal's number.
+#[tactic(auto, unfolding(crate::specs::Found::told))]
+fn told(found: Result<Option<Entry>, Refusal>) -> Answer
+    ensures { result ≡ told found }
+{
+    match found {
+        Ok(Some(e)) => given(e),
+        Ok(None) => Answer::end(),
+        Err(r) => Answer::from(r),
+    }
+}
+
 // Walk after walk, each to the least index key above the last, until one gives a bib or no key. The log is read once, before.
-fn walk_on(card: &Card, root: Entry, k: u32, t: u32) -> Result<Answer, Refusal>
+fn walk_on(card: &Card, root: Entry, k: u32, t: u32) -> Result<Option<Entry>, Refusal>
     requires { search_log t (sectors card.now.head.n card.now.bytes.now 1 card.now.head.n) ≡ Ok root }
-    ensures { result_of result ≡ rounds card.now.head card.now.bytes.now k t 4294967296 k }
+    ensures answer { told result ≡ rounds card.now.head card.now.bytes.now k t 4294967296 k }
+    ensures above { Above k result }
 {
     let mut x = k;
     loop {
         match walk_to(card, root.value, k, x, t)? {
-            Leg::Stand(e) => return Ok(given(e)),
+            Leg::Stand(e) => return Ok(Some(e)),
             Leg::Over(Some(e)) => x = e.key,
-            Leg::Over(None) => return Ok(Answer::end()),
+            Leg::Over(None) => return Ok(None),
         }
     }
 }
 
-fn following(card: &[u8], bib: u32, at: u32) -> Result<Answer, Refusal>
-    ensures { result_of result ≡ next card.now bib at }
+// The post of the next standing bib above `bib` as of `at`, none at the end.
+pub fn following(card: &[u8], bib: u32, at: u32) -> Result<Option<Entry>, Refusal>
+    ensures answer { told result ≡ next card.now bib at }
+    ensures above { Above bib result }
 {
     let card = walk::head::read(card)?;
     card.as_of(at)?;
@@ -96,5 +112,5 @@ fn following(card: &[u8], bib: u32, at: u32) -> Result<Answer, Refusal>
 pub fn next(card: &[u8], bib: u32, at: u32) -> Answer
     ensures { result ≡ next card.now bib at }
 {
-    Answer::of(following(card, bib, at))
+    told(following(card, bib, at))
 }

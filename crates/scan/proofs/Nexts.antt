@@ -1,25 +1,29 @@
 -- The walks and rounds of next, as the loops run, are the rules' next.
-use mathlib.Core.Path.{◌≡◌, refl, ap, sym, ◌∙◌}
-use mathlib.Core.Bool.{false}
+use mathlib.Core.Path.{◌≡◌, refl, ap, sym, subst, ◌∙◌}
+use mathlib.Core.Bool.{true, false}
 use Rattle.std.specs.Prelude.{Option, None, Some, Result, Ok, Err}
 use Rattle.rules.specs.declared.refusal.Damage.{Damage}
-use Prim.Native.Nat.{ℕ, zero, suc}
+use Prim.Native.Nat.{ℕ, zero, suc, ◌<◌}
 use mathlib.Core.List.{List, [], ◌∷◌, ◌++◌, append_assoc}
 use Rattle.rules.specs.declared.Entry.{Entry}
 use Rattle.rules.specs.declared.Head.{Head}
 use Rattle.rules.specs.declared.Answer.{Answer}
 use Rattle.rules.specs.declared.Sector.{Sector}
 use lib.Dec.{ltb}
+use borrow.Author.Tests.{ltb-true}
 use Rattle.rules.specs.Answers.{refused}
 use Rattle.rules.specs.Bucket.{joins, run, sound_bucket, bucket, log}
 use Rattle.rules.specs.Layout.{base, head_of, beginning}
-use Rattle.rules.specs.Next.{key_above, index_on, standing_above, final, hop_to, hop_or, hop, hopping, next_from, next_in, next}
+use Rattle.rules.specs.Next.{key_above, index_on, lasts, standing_above, final, hop_to, hop_or, hop, hopping, next_from, next_in, next}
 use Rattle.rules.specs.Plain.{if, every, only, smallest}
-use Rattle.rules.specs.Sector.{is_index}
+use Rattle.rules.specs.Sector.{is_index, is_post}
 use Rattle.rules.specs.Walk.{Visit, Turn, broken, arrived, down, left, copy_of, turn, met, go, go_in, path, path_from, walk, data_of}
-use Rattle.laws.proofs.Tools.{none-some, then-inv, guard-true}
+use Rattle.laws.proofs.Lists.{only-true}
+use Rattle.laws.proofs.Tells.{smallest-all, wants}
+use Rattle.laws.proofs.Tools.{none-some, and-true, then-inv, guard-true}
 use Rattle.scan.specs.declared.Way.TheVariants.{Down, End}
 use Rattle.scan.specs.declared.Leg.{Leg}
+use Rattle.scan.specs.declared.Leg.TheVariants.{Stand, Over}
 use Rattle.scan.specs.Scan.{damaged, sectors, search_log}
 use Rattle.scan.specs.Next.{pick_up, weigh, stand_in, sectors_of, leg_of, stride, leg_scan, leg_from, leg, after, rounds, next_scan_in, next_scan}
 use Rattle.scan.proofs.Runs.{nil, run_of, run-sectors, fold}
@@ -55,6 +59,14 @@ unfolding leg_in met data_of ups
 leg-met k x t up v None f = refl
 leg-met k x t up v (Some []) f = absurd f
 leg-met k x t up v (Some (w ∷ p)) f = refl
+
+-- the record of a walk's end is a post above the bib asked with
+standing-key : (k : ℕ) (es : List Entry) (e : Entry) → standing_above k es ≡ Some e → (k < e.key) × (is_post e ≡ true)
+unfolding standing_above
+standing-key k es e q =
+    let w = smallest-all (λ d. wants k d ≡ true) (only (wants k) (lasts es)) e (only-true (wants k) (lasts es)) q in
+    let both = and-true (is_post e) (ltb k e.key) w in
+    (ltb-true k e.key both.1, both.0)
 
 stride-here : (c : Option Entry) (here : Leg) (on : ℕ → ℕ → Result Leg Damage) → stride (Ok (End c)) here on ≡ Ok here
 unfolding stride
@@ -125,6 +137,25 @@ leg-walk h card k t x =
     from-leg h card k x t (search_log t (sectors h.n card 1 h.n))
     ∙ ap (λ r. leg_in k x t None (path_from (bucket h card) t x h.n r)) (search-log h card t)
     ∙ ap (leg_in k x t None) (in_then (bucket h card) t x h.n (log h card))
+
+-- what a walk stands at, if it does, is a post above k
+abbrev StandsAbove : ℕ → Result Leg Damage → Type 0
+StandsAbove k (Err d) = Unit {0}
+StandsAbove k (Ok (Stand e)) = (k < e.key) × (is_post e ≡ true)
+StandsAbove k (Ok (Over up)) = Unit {0}
+
+of-above : (k : ℕ) (es : List Entry) (up o : Option Entry) → standing_above k es ≡ o → StandsAbove k (Ok (leg_of o up))
+unfolding leg_of
+of-above k es up None q = tt
+of-above k es up (Some e) q = standing-key k es e q
+
+in-above : (k x t : ℕ) (up : Option Entry) (q : Option (List Visit)) → StandsAbove k (leg_in k x t up q)
+unfolding leg_in
+in-above k x t up None = tt
+in-above k x t up (Some p) = of-above k (left t (data_of p)) (ups x t up p) (standing_above k (left t (data_of p))) refl
+
+pub leg-stands : (h : Head) (card : List ℕ) (k t x : ℕ) (e : Entry) → leg h card k t x ≡ Ok (Stand e) → (k < e.key) × (is_post e ≡ true)
+leg-stands h card k t x e q = subst (StandsAbove k) (sym (leg-walk h card k t x) ∙ q) (in-above k x t None (walk h card t x))
 
 ups-index : (x t : ℕ) (pre : List Entry) (p : List Visit) → ups x t (above_in x t pre) p ≡ above_in x t (pre ++ index_on p)
 unfolding ups index_on

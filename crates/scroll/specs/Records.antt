@@ -1,6 +1,8 @@
 -- What `records` gives of a scroll's records in a row, and its tally.
 use Rattle.std.specs.Prelude.{ℕ, List, [], ltb, eqb, length}
-use Rattle.std.specs.Prelude.{Option, None, Some}
+use Rattle.std.specs.Prelude.{Option, None, Some, Result, Ok, Err}
+use Rattle.rules.specs.declared.refusal.Refusal.{Refusal}
+use Rattle.rules.specs.Refusals.{number}
 use Rattle.rules.specs.declared.Head.{Head}
 use Rattle.rules.specs.Layout.{head_of, beginning}
 use Rattle.rules.specs.Plain.{if}
@@ -21,3 +23,8 @@ records_of card at places bib = records_in card at places bib (head_of card)
 
 abbrev pub tally_of : Roll → Tally
 tally_of r = record { code = r.code; count = length r.records }
+
+-- the tally of so many records, or of a refusal
+abbrev pub tally_from : Result ℕ Refusal → Tally
+tally_from (Ok n) = record { code = 0; count = n }
+tally_from (Err r) = record { code = number r; count = 0 }

@@ -1,13 +1,14 @@
 -- With f walks left from x on the answer is that of all walks; x rises, so f is never spent.
 use borrow.Author.Rules.{rules}
 use Prim.Native.Nat.{◌<◌, ◌-◌}
-use mathlib.Core.Path.{◌≡◌, refl, ap, ◌∙◌}
+use mathlib.Core.Path.{◌≡◌, refl, ap, sym, ◌∙◌}
 use native.Mathlib.Omega.{arith}
 use Rattle.std.specs.Prelude.{None, Some, Ok}
 use Rattle.std.proofs.lemmas.Result.{err_from_is_err_and}
-use Rattle.rules.specs.Answers.{result_of}
+use Rattle.next.specs.Found.{told}
 use Rattle.scan.specs.declared.Leg.TheVariants.{Stand, Over}
 use Rattle.scan.specs.Next.{leg, after, rounds}
+use Rattle.scan.proofs.Nexts.{leg-stands}
 use Rattle.scan.proofs.Parts.{root-found}
 use Rattle.next.proofs.Rounds.{leg-root, round-turn, round-rises}
 use Rattle.next.proofs.walk_on.Goals as goal
@@ -34,23 +35,30 @@ turn_at q =
     let card = q.args.card.now in
     round-turn card.head card.bytes.now q.args.k q.args.t q.loop-e.x q.loop-e.invariant.0 _ _ (leg-at q) (omega (arith, q.loop-e.invariant.1, q.loop-e.invariant.2)) q.loop-e.invariant.3
 
-pub returns-in_err-e : goal.returns-in_err-e
-unfolding result_of after
-returns-in_err-e c =
+pub returns-in_err-e-clause-answer : goal.returns-in_err-e-clause-answer
+unfolding told after
+returns-in_err-e-clause-answer c =
     let p = err_from_is_err_and c.from_residual.result c.from_residual.ensures.1 in
-    ap result_of p.1 ∙ rw p.2 (rw c.in_err-e.was at (turn_at (goal.at.returns-in_err-e c).After-walk_to))
+    ap told p.1 ∙ rw p.2 (rw c.in_err-e.was at (turn_at (goal.at.returns-in_err-e-clause-answer c).After-walk_to))
 
-pub returns-in-Stand : goal.returns-in-Stand
-unfolding result_of after
-returns-in-Stand c =
+pub returns-in-Stand-clause-answer : goal.returns-in-Stand-clause-answer
+unfolding told after
+returns-in-Stand-clause-answer c =
     let stands : c.walk_to.result ≡ Ok (Stand c.in-Stand.e) = c.in_ok-e.was ∙ ap Ok c.in-Stand.is in
-    c.given.ensures ∙ (rw stands at (turn_at (goal.at.returns-in-Stand c).After-walk_to))
+    rw stands at (turn_at (goal.at.returns-in-Stand-clause-answer c).After-walk_to)
 
-pub returns-in-Over-None : goal.returns-in-Over-None
-unfolding result_of after
-returns-in-Over-None c =
+-- and it is above k
+pub returns-in-Stand-clause-above : goal.returns-in-Stand-clause-above
+returns-in-Stand-clause-above c =
+    let stands : c.walk_to.result ≡ Ok (Stand c.in-Stand.e) = c.in_ok-e.was ∙ ap Ok c.in-Stand.is in
+    let card = c.args.card.now in
+    leg-stands card.head card.bytes.now c.args.k c.args.t c.loop-e.x _ (sym (leg-at (goal.at.returns-in-Stand-clause-above c).After-walk_to) ∙ stands)
+
+pub returns-in-Over-None-clause-answer : goal.returns-in-Over-None-clause-answer
+unfolding told after
+returns-in-Over-None-clause-answer c =
     let ends : c.walk_to.result ≡ Ok (Over None) = c.in_ok-e.was ∙ ap Ok (c.in-Over-None.is ∙ ap Over c.in-Over-None.field-0-is) in
-    c.end.ensures ∙ (rw ends at (turn_at (goal.at.returns-in-Over-None c).After-walk_to))
+    rw ends at (turn_at (goal.at.returns-in-Over-None-clause-answer c).After-walk_to)
 
 -- another key, above the last
 over : (q : In-Over-Some) → q.walk_to.result ≡ Ok (Over (Some q.in-Over-Some.e))
