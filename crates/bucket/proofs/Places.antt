@@ -114,11 +114,6 @@ unfolding log_of search_log
 log-found h card part t r long at-log found =
     ap root_in (rw at-log at found) ∙ ap (λ (l : List Sector). root_in (scan_in is_root (pick_root t) l None)) (sectors-part h.n card 1 h.n 0 h.n long (omega arith))
 
--- a place lies before the next sector
-pub place-le : (b : Bool) (i hit r : ℕ) → hit ≤ i → r ≡ if b (i + 1) hit → r ≤ i + 1
-place-le true i hit r le is = omega arith
-place-le false i hit r le is = omega arith
-
 -- a log without a root entry is damage
 pub root-or : (r : Option Entry) → ok_or r (record {}) ≡ root_in (Ok r)
 unfolding root_in

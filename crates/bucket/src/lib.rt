@@ -91,9 +91,9 @@ pub fn entry_at(part: &[u8], place: usize) -> Option<Entry>
     Some(sector::fields_at(part, i))
 }
 
-// Whether all sectors behind sector i of a part are blank: its bytes are asked at one go.
-fn blank_behind(part: &[u8], n: usize, count: usize, i: usize) -> bool
-    requires { (length part.now ≡ 16 * count) × (count ≤ 4096) × (i < count) }
+// Whether all sectors behind sector i of a part are blank: they are not decoded, their bytes are asked at one go.
+pub fn blank_behind(part: &[u8], n: usize, count: usize, i: usize) -> bool
+    requires { (length part.now ≡ 16 * count) × (i < count) }
     ensures { result ≡ all_blank (sectors n part.now (i + 1) (count - (i + 1))) }
 {
     sector::all_zero(&part[16 * i + 16..])

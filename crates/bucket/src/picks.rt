@@ -1,6 +1,5 @@
 // The decisions of the scans, on an entry at a time. Each gives a yes or no or a number, and what is kept is chosen by it.
 ghost use Rattle.std.specs.Prelude.{◌≡◌, ◌<◌, ◌%◌};
-ghost use Rattle.rules.specs.Plain.{if};
 ghost use Rattle.bucket.specs.Places.{data_fits, index_fits, is_copy, rank};
 
 use rules::Entry;
@@ -48,10 +47,4 @@ pub fn place_of(rank: u64) -> usize
     ensures { result ≡ rank % 64 }
 {
     (rank % 64) as usize
-}
-
-pub fn chosen(yes: bool, a: usize, b: usize) -> usize
-    ensures { result ≡ if yes a b }
-{
-    if yes { a } else { b }
 }

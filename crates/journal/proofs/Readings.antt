@@ -14,22 +14,18 @@ use Rattle.rules.specs.declared.Sector.{Sector}
 use Rattle.rules.specs.declared.Sector.TheVariants.{Blank, Held, Damaged}
 use Rattle.rules.specs.Bucket.{onto, run}
 use Rattle.rules.specs.Journal.{rising, sound_journal, journal, stamp_in, next_of, journal_next_in, journal_next}
-use Rattle.rules.specs.Next.{standing_above}
 use Rattle.rules.specs.Plain.{if, ◌&◌, and_then, last_of}
 use Rattle.rules.specs.Sector.{is_data, decode, sector_at}
-use Rattle.rules.specs.Walk.{left}
 use Rattle.laws.proofs.Journals.{InOrder, journal-order}
 use Rattle.laws.proofs.Run.{onto-inv}
 use Rattle.laws.proofs.Buckets.{run_length}
 use Rattle.scan.specs.Next.{runs, stand_in}
 use Rattle.laws.proofs.Tools.{none-some, bool_cases, true-false, false-true, and-true, true-and}
-use Rattle.scan.specs.declared.Found.{Found}
-use Rattle.scan.specs.declared.Found.TheVariants.{Nothing}
 use Rattle.scan.specs.Scan.{sectors, pick}
 use Rattle.scan.proofs.Runs.{run_of, run-sectors, blank-run, fold}
-use Rattle.scan.proofs.Picks.{hit, fold-data}
+use Rattle.scan.proofs.Picks.{fold-data}
 use Rattle.scan.proofs.Mins.{blank-nil, held_cons, damaged-no, stand-run, stand-above}
-use Rattle.journal.specs.Passes.{follows, risen, pass, passed, read_scan, pass_of, reading_of, next_told}
+use Rattle.journal.specs.Passes.{follows, risen, pass, passed, read_scan, pass_of, reading_of}
 
 -- the stamp of the last entry, or s where there is none
 unfoldable stamp_from : ℕ → List Entry → ℕ
@@ -109,11 +105,11 @@ unfolding journal
 journal-odd slice odd = rw (ne_eqb (length slice % 16) 0 odd)
 
 -- the pass over a run
-no_more : (x t used last : ℕ) (copy : Found) → pass used last copy ≡ pass (used + length {A = Entry} []) (stamp_from last []) (fold (pick false x t) copy [])
+no_more : (x t used last : ℕ) (copy : Option Entry) → pass used last copy ≡ pass (used + length {A = Entry} []) (stamp_from last []) (fold (pick false x t) copy [])
 unfolding stamp_from fold
 no_more x t used last copy = let n : used ≡ used + 0 = omega arith in ap (λ k. pass k last copy) n
 
-passed-run : (x t : ℕ) (ss : List Sector) (es : List Entry) (used last : ℕ) (copy : Found) → run_of ss ≡ Some es
+passed-run : (x t : ℕ) (ss : List Sector) (es : List Entry) (used last : ℕ) (copy : Option Entry) → run_of ss ≡ Some es
     → passed x t ss used last copy ≡ pass (used + length es) (stamp_from last es) (fold (pick false x t) copy es)
 unfolding run_of passed stamp_from fold onto
 passed-run x t [] es used last copy h = let z : [] ≡ es = cc in subst (λ l. pass used last copy ≡ pass (used + length l) (stamp_from last l) (fold (pick false x t) copy l)) z (no_more x t used last copy)
@@ -125,14 +121,14 @@ passed-run x t (Held e ∷ ss) es used last copy h =
     ∙ ap (λ n. pass n (stamp_from e.stamp w.0) (fold (pick false x t) (pick false x t copy e) w.0)) on)
 passed-run x t (Damaged ∷ ss) es used last copy h = absurd (damaged-no (run_of ss) es h)
 
-passed-all : (x t : ℕ) (ss : List Sector) (es : List Entry) → run_of ss ≡ Some es → passed x t ss 0 0 Nothing ≡ pass_of x t es
+passed-all : (x t : ℕ) (ss : List Sector) (es : List Entry) → run_of ss ≡ Some es → passed x t ss 0 0 None ≡ pass_of x t es
 unfolding pass_of
 passed-all x t ss es h =
     let n : 0 + length es ≡ length es = omega arith in
-    passed-run x t ss es 0 0 Nothing h ∙ rw (n, from_zero es, fold-data x t es)
+    passed-run x t ss es 0 0 None h ∙ rw (n, from_zero es, fold-data x t es)
 
 -- a pass is the rule's reading
-pub reading-is : (x t : ℕ) (slice : List ℕ) (count : ℕ) → length slice ≡ 16 * count → read_scan x t (sectors 0 slice 0 count) 0 0 Nothing ≡ reading_of x t (journal slice)
+pub reading-is : (x t : ℕ) (slice : List ℕ) (count : ℕ) → length slice ≡ 16 * count → read_scan x t (sectors 0 slice 0 count) 0 0 None ≡ reading_of x t (journal slice)
 unfolding read_scan reading_of
 reading-is x t slice count long =
     ⊎_elim
@@ -145,11 +141,6 @@ reading-is x t slice count long =
 onto-some : (e : Entry) (es : List Entry) → onto (Held e) (Some es) ≡ Some (e ∷ es)
 unfolding onto
 onto-some e es = refl
-
-told-hit : (o : Option Entry) → next_told (hit o) ≡ next_of o
-unfolding next_told hit next_of
-told-hit None = refl
-told-hit (Some e) = refl
 
 -- the written sectors of a journal alone
 written-run : (slice : List ℕ) (s i c : ℕ) (es : List Entry) → run 0 slice i c ≡ Some es → rising s es ≡ true
@@ -178,9 +169,8 @@ module _ (slice : List ℕ) (es : List Entry) (q : journal slice ≡ Some es) (u
   pub written-lies : 16 * used ≤ length slice
   written-lies = let most = run_length 0 slice 0 (length slice / 16) es order.1 in omega (arith, most, all)
 
-  pub next-is : (k t : ℕ) → next_told (stand_in k t (sectors 0 slice 0 used) Nothing) ≡ journal_next slice k t
+  pub next-is : (k t : ℕ) → next_of (stand_in k t (sectors 0 slice 0 used) None) ≡ journal_next slice k t
   unfolding journal_next journal_next_in
   next-is k t =
       let r = (written-run slice 0 0 (length slice / 16) es order.1 order.2).0 in
-      ap next_told (ap (λ n. stand_in k t (sectors 0 slice 0 n) Nothing) all ∙ stand-run k t (sectors 0 slice 0 (length es)) es Nothing r ∙ stand-above k t es)
-      ∙ told-hit (standing_above k (left t es)) ∙ sym (rw q)
+      ap next_of (ap (λ n. stand_in k t (sectors 0 slice 0 n) None) all ∙ stand-run k t (sectors 0 slice 0 (length es)) es None r ∙ stand-above k t es) ∙ sym (rw q)

@@ -10,7 +10,7 @@ ghost use Rattle.line.specs.Requests.{call_of};
 ghost use Rattle.session.specs.Cards.{Room};
 
 use line::Request;
-use rules::Answer;
+use rules::{Answer, Refusal};
 
 // The card's length after a line, and the answer to it.
 #[derive(Clone, Copy)]
@@ -64,7 +64,7 @@ fn first_format(card: &mut [u8], buckets: u32, sectors: u32, td: u32, ti: u32) -
     if too_long {
         return Acted {
             len: 0,
-            answer: walk::refusal(8),
+            answer: Answer::from(Refusal::Shape),
         };
     }
     let len = 16 * (1 + behind);
@@ -86,7 +86,7 @@ pub fn act(card: &mut [u8], len: usize, line: &[u8]) -> Acted
     let Some(request) = line::parse(line) else {
         return Acted {
             len,
-            answer: walk::refusal(10),
+            answer: Answer::from(Refusal::NoLine),
         };
     };
     match request {

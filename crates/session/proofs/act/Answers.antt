@@ -15,7 +15,7 @@ pub returns-in_default-clause-answer_after : goal.returns-in_default-clause-answ
 unfolding bench_line bench_done
 returns-in_default-clause-answer_after c =
     let card = take c.args.len c.args.card.now in
-    ap (answered card) c.refusal.ensures ∙ ap (bench_done card) c.in_default.ensures
+    ap (answered card) c.from.ensures ∙ ap (bench_done card) c.in_default.ensures
 
 pub returns-in-Format-clause-answer_after : goal.returns-in-Format-clause-answer_after
 unfolding bench_line bench_done bench_call

@@ -9,7 +9,7 @@ use Rattle.session.proofs.first_format.Goals as goal
 pub returns-then-too_long-clause-answer_after : goal.returns-then-too_long-clause-answer_after
 returns-then-too_long-clause-answer_after c =
     let a = c.args in
-    ap (answered []) c.refusal.ensures ∙ first-large a.buckets a.sectors a.td a.ti (omega (arith, c.if-too_long.true))
+    ap (answered []) c.from.ensures ∙ first-large a.buckets a.sectors a.td a.ti (omega (arith, c.if-too_long.true))
 
 pub returns-then-answer-eq0 : goal.returns-then-answer-eq0
 returns-then-answer-eq0 c =
