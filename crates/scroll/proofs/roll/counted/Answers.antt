@@ -2,12 +2,9 @@
 use mathlib.Core.Path.{ap, ◌∙◌}
 use Rattle.std.proofs.lemmas.Result.{err_from_is_err_and}
 use Rattle.scroll.specs.Records.{tally_from}
-use Rattle.scroll.proofs.Rolls.{count-start, count-refused, count-ended, count-found, count-full}
+use Rattle.scroll.proofs.Rolls.{count-refused, count-ended, count-found, count-full}
 use borrow.Author.Rules.{rules}
 use Rattle.scroll.proofs.roll.counted.Goals as goal
-
-pub loop-count-init : goal.loop-count-init
-loop-count-init c = let a = c.args in count-start a.card.now a.at a.places a.bib
 
 pub returns-in_err-e-clause-value : goal.returns-in_err-e-clause-value
 returns-in_err-e-clause-value c =

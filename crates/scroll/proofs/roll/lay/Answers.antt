@@ -24,27 +24,3 @@ loop-i-init c =
       rw all (rolled-narrow a.card.now by a.at a.places a.bib),
       rw (none, all) refl,
     )
-
-pub write_entry-requires : goal.write_entry-requires
-write_entry-requires c =
-    let step = c.in-Some.ensures.steps in
-    let l = c.loop-i in
-    let many = ap length step.0 in
-    let narrow = rw step.0 at l.invariant.3 in
-    (omega (arith, many, step.1, l.invariant.2, c.requires, l.auto.out), narrow.0)
-
-pub loop-i-preserved : goal.loop-i-preserved
-loop-i-preserved c =
-    let step = c.in-Some.ensures.steps in
-    let l = c.loop-i in
-    let many = ap length step.0 in
-    let narrow = rw step.0 at l.invariant.3 in (
-      (tt, tt, inl (omega (arith, many, step.2, l.invariant.2, c.ranges.places.fits))),
-      tt,
-      omega (arith, many, step.2, l.invariant.2),
-      narrow.1,
-      rw (c.write_entry.ensures, step.1, step.2) (rw step.0 at l.invariant.4),
-    )
-
-pub returns : goal.returns
-returns c = let step = c.in-None.ensures.steps in rw step.0.0 at c.loop-i.invariant.4
