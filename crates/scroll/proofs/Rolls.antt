@@ -202,6 +202,13 @@ counted-all r n is =
 pub counted-none : (r : Roll) (x : Refusal) → tally_from (Err x) ≡ tally_of (given r) → r.code ≡ 0 → ⊥
 counted-none r x is z = number-some x (ap (λ (t : Tally). t.code) is ∙ given-code r ∙ z)
 
+-- a refusal is told by its number, and nothing is laid down
+abbrev pub TellsRoll : Roll → List ℕ → Result ℕ Refusal → List ℕ → Type 0
+TellsRoll r out done new = record { value : tally_from done ≡ tally_of r; out_after : new ≡ puts out 0 r.records }
+
+pub refused-roll : (r : Roll) (out : List ℕ) (x : Refusal) (done : Result ℕ Refusal) → done ≡ Err x → r ≡ roll (number x) [] → TellsRoll r out done out
+refused-roll r out x done e q = record { value = ap tally_from e ∙ ap tally_of (sym q); out_after = ap (λ (s : Roll). puts out 0 s.records) (sym q) }
+
 module _ (card : List ℕ) (at c bib : ℕ) (out : List ℕ) where
   pub page-all : (n : ℕ) → tally_from (Ok n) ≡ tally_of (given (rolled card at c bib)) → (new : List ℕ) → new ≡ puts out 0 (rolled card at n bib).records
       → new ≡ puts out 0 (given (rolled card at c bib)).records
