@@ -98,12 +98,6 @@ rolled-narrow card by at (suc c) bib =
 abbrev pub tally_after : ℕ → Roll → Tally
 tally_after n r = record { code = r.code; count = n + length r.records }
 
-pub count-start : (card : List ℕ) (at c bib : ℕ) → tally_after 0 (rolled card at (c - 0) bib) ≡ tally_of (rolled card at c bib)
-count-start card at c bib =
-    let all : c - 0 ≡ c = omega arith in
-    let none : 0 + length (rolled card at c bib).records ≡ length (rolled card at c bib).records = omega arith in
-    rw (all, none)
-
 one-length : (card : List ℕ) (at c bib : ℕ) → ((b : ℕ) → (rolled card at (length (rolled card at c b).records) b).records ≡ (rolled card at c b).records)
     → (t : Bool) → eqb (next card bib at).bib 0 ≡ t
     → (rolled card at (length (roll_on (next card bib at) (rolled card at c)).records) bib).records ≡ (roll_on (next card bib at) (rolled card at c)).records
