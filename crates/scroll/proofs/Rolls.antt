@@ -193,11 +193,18 @@ pub count-full : (card : List ℕ) (at c last : ℕ) (whole : Roll) → tally_af
 unfolding rolled
 count-full card at c last whole inv = let e : c - c ≡ 0 = omega arith in tally-all whole c (rw e at inv)
 
+-- what a count says of the roll
+pub counted-all : (r : Roll) (n : ℕ) → tally_from (Ok n) ≡ tally_of (given r) → (r.code ≡ 0) × (n ≡ length r.records)
+counted-all r n is =
+    let sound = sym (given-code r) ∙ sym (ap (λ (t : Tally). t.code) is) in
+    (sound, rw (given-all r sound) at (ap (λ (t : Tally). t.count) is))
+
+pub counted-none : (r : Roll) (x : Refusal) → tally_from (Err x) ≡ tally_of (given r) → r.code ≡ 0 → ⊥
+counted-none r x is z = number-some x (ap (λ (t : Tally). t.code) is ∙ given-code r ∙ z)
+
 module _ (card : List ℕ) (at c bib : ℕ) (out : List ℕ) where
   pub page-all : (n : ℕ) → tally_from (Ok n) ≡ tally_of (given (rolled card at c bib)) → (new : List ℕ) → new ≡ puts out 0 (rolled card at n bib).records
       → new ≡ puts out 0 (given (rolled card at c bib)).records
   page-all n is new h =
-      let sound = sym (given-code (rolled card at c bib)) ∙ sym (ap (λ (t : Tally). t.code) is) in
-      let all = given-all (rolled card at c bib) sound in
-      let many : n ≡ length (rolled card at c bib).records = rw all at (ap (λ (t : Tally). t.count) is) in
-      rw all (h ∙ ap (λ (k : ℕ). puts out 0 (rolled card at k bib).records) many ∙ ap (puts out 0) (roll-length card at c bib))
+      let all = counted-all (rolled card at c bib) n is in
+      rw (given-all (rolled card at c bib) all.0) (h ∙ ap (λ (k : ℕ). puts out 0 (rolled card at k bib).records) all.1 ∙ ap (puts out 0) (roll-length card at c bib))

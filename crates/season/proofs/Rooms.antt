@@ -30,7 +30,7 @@ pub level-room : (h : Head) (card : List ℕ) (q b c : ℕ) → Shape h card →
 unfolding spot
 level-room h card q b c sh one most lo fit =
     record {
-      Some = one;
+      some = one;
       long = card-long h card sh;
       lies = λ k lt.
           let g = over-bucket q c k one lt in

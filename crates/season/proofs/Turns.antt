@@ -4,33 +4,15 @@ use mathlib.Core.List.{List}
 use Prim.Native.Nat.{ℕ, zero, suc, ◌+◌, ◌-◌, ◌≤◌, ◌<◌}
 use native.Mathlib.Omega.{arith}
 use borrow.Author.Tests.{lt-ltb, le-ltb}
-use Rattle.rules.specs.declared.Answer.{Answer}
 use Rattle.rules.specs.declared.Entry.{Entry}
 use Rattle.rules.specs.declared.Head.{Head}
 use Rattle.rules.specs.Sector.{put, encode}
 use Rattle.rules.specs.Layout.{base}
-use Rattle.rules.specs.Next.{next}
-use Rattle.rules.specs.Records.{record_of, rolled}
-use Rattle.scroll.proofs.Rolls.{roll-stop, roll-more, roll-end}
 use mathlib.Core.Logic.{⊎_elim}
 use Rattle.laws.proofs.Tools.{le-or-lt}
 use Rattle.writer.specs.Words.{Narrow}
-use Rattle.season.specs.Storeys.{spot, over, laid, pair_on, raised, tiers, heap}
+use Rattle.season.specs.Storeys.{spot, over, pair_on, raised, tiers, heap}
 use Rattle.season.proofs.Counts.{over-less, heap-more}
-
--- the records of the data level
-module _ (m q i : ℕ) (card : List ℕ) (at c j last : ℕ) (a : Answer) (is : a ≡ next card last at) (lt : j < c) (R target : List ℕ)
-    (h : laid m q i (j + 1) target (rolled card at (c - j) last).records ≡ R) where
-  pub records-stop : a.bib ≡ 0 → target ≡ R
-  records-stop z = rw (roll-stop card at c j last a is lt z) at h
-
-  pub records-more : (new : List ℕ) → new ≡ put target (spot m q i (j + 1)) (encode (record_of a)) → (a.bib ≡ 0 → ⊥)
-      → laid m q i (j + 1 + 1) new (rolled card at (c - (j + 1)) a.bib).records ≡ R
-  records-more new e z = rw e (rw (roll-more card at c j last a is lt z) at h)
-
-pub records-end : (m q i : ℕ) (card : List ℕ) (at c j last : ℕ) → c ≤ j → (R target : List ℕ)
-    → laid m q i (j + 1) target (rolled card at (c - j) last).records ≡ R → target ≡ R
-records-end m q i card at c j last le R target h = rw (roll-end card at c j last le) at h
 
 -- the pairs of an index level
 module _ (h : Head) (s q b i c j : ℕ) (R target : List ℕ) (eq : raised h s q b i j (c - j) target ≡ R) where
@@ -55,7 +37,7 @@ pub record Rest (h : Head) (s q b c : ℕ) (R target : List ℕ) : Type 0 where
   pub fits : heap q f (b + c) c ≤ h.n + 1
   pub gives : tiers h s q f b c target ≡ R
 
-module _ (h : Head) (s q b c : ℕ) (R target : List ℕ) (three : 3 ≤ q) (Some : 1 ≤ c) where
+module _ (h : Head) (s q b c : ℕ) (R target : List ℕ) (three : 3 ≤ q) (some : 1 ≤ c) where
   pub rest-fits : Rest h s q b c R target → b + c + over q c ≤ h.n + 1
   rest-fits r = go r.f r.enough r.fits
     where
@@ -92,7 +74,7 @@ pub record Left (q next c : ℕ) (R : ℕ) : Type 0 where
   pub enough : c ≤ f
   pub gives : heap q f next c ≡ R
 
-module _ (q next c R : ℕ) (three : 3 ≤ q) (Some : 1 ≤ c) where
+module _ (q next c R : ℕ) (three : 3 ≤ q) (some : 1 ≤ c) where
   pub left_end : Left q next c R → over q c ≤ 1 → next + over q c ≡ R
   left_end l le = go l.f l.enough l.gives
     where

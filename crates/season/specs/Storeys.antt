@@ -46,6 +46,6 @@ fresh q c = heap q (over q c) (1 + over q c) (over q c)
 
 -- a card on which each of the c entries of a level has its sector
 pub record Room (m q i c : ℕ) (card : List ℕ) : Type 0 where
-  pub Some : 1 ≤ q
+  pub some : 1 ≤ q
   pub long : length card ≤ 4000000
   pub lies : (k : ℕ) → k < c → 16 * spot m q i k + 16 ≤ length card
