@@ -1,6 +1,6 @@
 // The decisions of a journal, on an entry at a time.
 ghost use Rattle.std.specs.Prelude.{◌≡◌};
-ghost use Rattle.journal.specs.Passes.{follows, stands, admitted, lower};
+ghost use Rattle.journal.specs.Passes.{follows, admitted, lower};
 
 use crate::Pass;
 use rules::{Entry, Refusal};
@@ -13,16 +13,8 @@ pub fn follows(last: u32, e: Entry) -> bool
     e.is_data() && last < e.stamp
 }
 
-// Whether the last copy stands: it is there, and a post.
-#[tactic(auto, unfolding(crate::specs::Passes::stands))]
-fn stands(copy: Option<Entry>) -> bool
-    ensures { result ≡ stands copy }
-{
-    copy.is_some_and(Entry::is_post)
-}
-
 // What a sound journal of so many sectors has against the entry, in the card's order.
-#[tactic(auto, unfolding(crate::specs::Passes::admitted, crate::specs::Passes::first_of))]
+#[tactic(auto, unfolding(crate::specs::Passes::admitted, crate::specs::Passes::first_of, crate::specs::Passes::stands))]
 pub fn admit(e: Entry, pass: Pass, count: usize) -> Result<(), Refusal>
     ensures { result ≡ admitted e pass count }
 {
@@ -30,7 +22,7 @@ pub fn admit(e: Entry, pass: Pass, count: usize) -> Result<(), Refusal>
     if e.stamp <= pass.last {
         return Err(Refusal::Stamp);
     }
-    if !e.is_post() && !stands(pass.copy) {
+    if !e.is_post() && !pass.copy.is_some_and(Entry::is_post) {
         return Err(Refusal::NothingStands);
     }
     if pass.used == count {

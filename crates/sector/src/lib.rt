@@ -51,17 +51,17 @@ fn names_bucket(n: usize, value: u32) -> bool
     1 <= value && value as usize <= n
 }
 
-// Whether the fields keep their row of the table, on a card of n buckets. A status stands beside a post alone.
+// Whether the fields keep their row of the table, on a card of n buckets. A status stands beside a post alone; it is asked last, which takes
+// fewer instructions.
 #[tactic(auto, unfolding(rules::specs::Sector::legal, rules::specs::Sector::other_row, rules::specs::Sector::is_post, rules::specs::Sector::is_strike, rules::specs::Sector::is_index, rules::specs::Sector::is_root, rules::specs::Kinds::kind_of))]
 fn keeps_row(n: usize, e: Entry) -> bool
     ensures { result ≡ legal n e }
 {
-    let no_status = e.status == 0;
     match e.known_kind() {
-        Some(Kind::Post) => status_fits(e.status, e.value) && 1 <= e.key && 1 <= e.stamp,
-        Some(Kind::Strike) => no_status && e.value == 0 && (1 <= e.key || e.stamp == 0),
-        Some(Kind::Index) => no_status && names_bucket(n, e.value),
-        Some(Kind::Root) => no_status && e.key == 0 && names_bucket(n, e.value),
+        Some(Kind::Post) => 1 <= e.key && 1 <= e.stamp && status_fits(e.status, e.value),
+        Some(Kind::Strike) => e.value == 0 && (1 <= e.key || e.stamp == 0) && e.status == 0,
+        Some(Kind::Index) => names_bucket(n, e.value) && e.status == 0,
+        Some(Kind::Root) => e.key == 0 && names_bucket(n, e.value) && e.status == 0,
         None => false,
     }
 }

@@ -10,7 +10,7 @@ ghost use Rattle.rules.specs.Walk.{walk};
 ghost use Rattle.rules.specs.Write.{plan_answer, plan_card, plan_at, plan, post, strike};
 ghost use Rattle.laws.proofs.Entries.{Asks};
 ghost use Rattle.level.specs.Level.{sent_list};
-ghost use Rattle.write.specs.Plans.{stands, admitted, barred_by, Begins, Judged, Did, Tried};
+ghost use Rattle.write.specs.Plans.{admitted, barred_by, Begins, Judged, Did, Tried};
 ghost use Rattle.write.specs.declared.Barred.TheVariants as Bars;
 
 use bucket::Card;
@@ -105,24 +105,12 @@ fn sent_first(e: Entry) -> Sent
     Sent { low: e, high: None }
 }
 
-// Whether something stands for a bib with this last copy: none does, and a strike does not.
-#[tactic(auto, unfolding(crate::specs::Plans::stands))]
-fn stands(copy: Option<Entry>) -> bool
-    ensures { result ≡ stands copy }
-{
-    let Some(e) = copy else {
-        return false;
-    };
-    let posted = e.is_post();
-    posted
-}
-
-// A strike needs a bib for which something stands.
-#[tactic(auto, unfolding(crate::specs::Plans::admitted))]
+// A strike needs a bib for which something stands: its last copy is there, and no strike.
+#[tactic(auto, unfolding(crate::specs::Plans::admitted, crate::specs::Plans::stands))]
 fn admit(e: Entry, copy: Option<Entry>) -> Result<(), Refusal>
     ensures { result ≡ admitted e copy }
 {
-    if e.is_post() || stands(copy) {
+    if e.is_post() || copy.is_some_and(Entry::is_post) {
         return Ok(());
     }
     Err(Refusal::NothingStands)
