@@ -163,7 +163,7 @@ fn is_paired(bytes: usize, places: usize) -> bool
     bytes % 16 == 0 && bytes / 16 == places
 }
 
-// The whole batch: 12, or 0 with an answer for each request. On what is no card of the layout each is answered with 1.
+// The whole batch: 12, or 0 with an answer for each request, the number as C gets it. On what is no card of the layout each is answered with 1.
 pub fn batch(card: &mut [u8], requests: &[u8], answers: &mut [u8]) -> u32
     ensures value { result ≡ (batch card.old requests.now answers.old).code }
     ensures card_after { card.new ≡ (batch card.old requests.now answers.old).card }

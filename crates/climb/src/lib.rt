@@ -122,7 +122,8 @@ pub fn count(card: &Card, levels: &[u32], p: Sent, fresh: usize, stamp: u32) -> 
     over(sent, next)
 }
 
-// These entries fill the fresh bucket b.
+// These entries fill the fresh bucket b. What writes takes bytes and head, here and in the crates above, and no type round the two: with
+// bytes lent to be changed each contract would say besides that the head stays, and each loop and call of itself would lend the type anew.
 fn write_new(card: &mut [u8], head: Head, b: usize, entries: &[Entry])
     requires fresh { Shape head card.old × (1 ≤ b) × (b ≤ head.n) × (raw head card.old b ≡ Some []) }
     requires fits { (length entries.now ≤ head.m) × AllSmall entries.now }

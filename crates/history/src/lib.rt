@@ -26,7 +26,7 @@ fn after(page: &Hand) -> Option<u64>
     Some(gather::next_from(page))
 }
 
-// Page after page, until the entries are counted or too many.
+// Page after page, until the entries are counted or too many. No iterator of pages, here and below: it would read the first page twice.
 fn counted(
     card: &Card<'_>,
     bib: u32,

@@ -120,7 +120,8 @@ fn least(slice: &[u8], used: usize, x: u32, t: u32) -> Option<Entry>
     bucket::entry_at(slice, best)
 }
 
-// The smallest standing bib above k: the least bib above k if its last copy is a post, else that above it.
+// The smallest standing bib above k: the least bib above k if its last copy is a post, else that above it. As for a bucket in `next`, whose
+// `least` keeps key and place in one number: a journal has more places than that has room for.
 fn standing(slice: &[u8], used: usize, k: u32, t: u32) -> Option<Entry>
     requires { (16 * used ≤ length slice.now) × (runs is_data (sectors 0 slice.now 0 used) ≡ true) }
     ensures { result ≡ stand_in k t (sectors 0 slice.now 0 used) None }

@@ -125,7 +125,7 @@ impl Entry {
     }
 }
 
-// What sixteen bytes of a card are.
+// What sixteen bytes of a card are: one of three, so that no Option or Result says it.
 #[derive(Clone, Copy)]
 pub enum Sector {
     Blank,
@@ -142,7 +142,7 @@ pub struct Head {
     pub n: usize,
 }
 
-// What a call answers.
+// What a call answers. The numbers stay numbers in this struct and the two below: include/card.h has the same for C.
 #[repr(C)]
 #[derive(Clone, Copy, Default)]
 pub struct Answer {

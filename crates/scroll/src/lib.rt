@@ -43,7 +43,7 @@ impl<'a> Scroll<'a> {
     }
 }
 
-// How many records were laid down, beside 0; or no record, beside the number of a refusal.
+// How many records were laid down, beside 0; or no record, beside the number of a refusal. C has the struct.
 #[repr(C)]
 #[derive(Clone, Copy)]
 pub struct Tally {

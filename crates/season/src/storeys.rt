@@ -34,7 +34,7 @@ pub fn over(q: usize, c: usize) -> usize
     c.div_ceil(q)
 }
 
-// The next fresh bucket when a card of so many entries, the dummy with them, is built.
+// The next fresh bucket when a card of so many entries, the dummy with them, is built. The loop counts no index: it ends with the root.
 pub fn needed(q: usize, entries: usize) -> usize
     requires { (3 ≤ q) × (q ≤ 32) × (1 ≤ entries) × (entries ≤ 4294967297) }
     ensures { result ≡ fresh q entries }

@@ -69,6 +69,7 @@ fn first_format(card: &mut [u8], buckets: u32, sectors: u32, td: u32, ti: u32) -
     }
     let len = 16 * (1 + behind);
     let answer = format::format(&mut card[..len], buckets, sectors, td, ti);
+    // The exported call's answer, in which acceptance is 0.
     if answer.code == 0 {
         Acted { len, answer }
     } else {
