@@ -4,8 +4,5 @@
 use std::process::ExitCode;
 
 fn main(rt: HostRuntime) -> ExitCode {
-    if serve::run(&mut rt.stdin(), &mut rt.stdout()) {
-        return ExitCode::SUCCESS;
-    }
-    ExitCode::FAILURE
+    serve::status(&rt)
 }

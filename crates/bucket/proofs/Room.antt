@@ -1,7 +1,7 @@
 -- Where bucket b lies, in numbers that the code computes: nothing wraps, and the part ends on the card.
 use mathlib.Core.Path.{◌≡◌}
 use mathlib.Core.List.{List}
-use mathlib.Core.Option.{some}
+use Rattle.std.specs.Prelude.{Some}
 use Prim.Native.Nat.{ℕ, ◌+◌, ◌*◌, ◌-◌, ◌≤◌}
 use native.Mathlib.Omega.{arith}
 use lib.ListN.{length}
@@ -11,7 +11,7 @@ use Rattle.laws.proofs.Heads.{head-facts, bucket-fits, log-fits, bucket-low}
 use Rattle.bucket.specs.Shapes.{Shape}
 
 -- the card whose head was read has the shape
-pub shape_of : (card : List ℕ) (h : Head) → head_of card ≡ some h → Shape h card
+pub shape_of : (card : List ℕ) (h : Head) → head_of card ≡ Some h → Shape h card
 shape_of card h q = let f = head-facts card h q in record { lim = f.0; long = f.1 }
 
 pub record Room (h : Head) (card : List ℕ) (b : ℕ) : Type 0 where

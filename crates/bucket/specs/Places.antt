@@ -1,14 +1,12 @@
 -- What a scan keeps from turn to turn: the place of an entry, one more than its sector's, and 0 for none. And the decisions it goes by.
-use Rattle.std.specs.Prelude.{List, Bool, ℕ, zero, suc, ◌+◌, ◌*◌, leb, eqb}
+use Rattle.std.specs.Prelude.{Option, None, Some, List, Bool, ℕ, zero, suc, ◌+◌, ◌*◌, leb, eqb}
 use Rattle.rules.specs.declared.Entry.{Entry}
 use Rattle.rules.specs.Plain.{if, ◌&◌}
 use Rattle.rules.specs.Sector.{sector_at, fields, is_index, is_data}
-use Rattle.scan.specs.declared.Found.{Found}
-use Rattle.scan.specs.declared.Found.TheVariants.{Nothing, Hit}
 
-unfoldable pub found_at : List ℕ → ℕ → Found
-found_at part zero = Nothing
-found_at part (suc i) = Hit (fields (sector_at part i))
+unfoldable pub found_at : List ℕ → ℕ → Option Entry
+found_at part zero = None
+found_at part (suc i) = Some (fields (sector_at part i))
 
 -- its key; 0, which no key is below, for none
 unfoldable pub key_at : List ℕ → ℕ → ℕ

@@ -2,7 +2,7 @@
 use mathlib.Core.Path.{◌≡◌, refl, ap, sym, ◌∙◌, subst}
 use mathlib.Core.Logic.{◌⊎◌, inl, inr, ⊎_elim}
 use mathlib.Core.Bool.{true, false}
-use mathlib.Core.Option.{some}
+use Rattle.std.specs.Prelude.{Some}
 use mathlib.Core.List.{List, [], ◌∷◌, ◌++◌, append_assoc}
 use Prim.Native.Nat.{ℕ, ◌+◌, ◌≤◌, ◌<◌}
 use native.Mathlib.Omega.{arith}
@@ -86,7 +86,7 @@ tally-more h s card b (e ∷ es) fresh =
     (bool_cases (leb (length (e ∷ es)) (length (blanks_of h card b))))
 
 -- along the walk to x on the card, from the hand es with the first fresh bucket
-module _ (h : Head) (card : List ℕ) (hq : head_of card ≡ some h) (t x s : ℕ) (es : List Entry) where
+module _ (h : Head) (card : List ℕ) (hq : head_of card ≡ Some h) (t x s : ℕ) (es : List Entry) where
   abbrev begun : Rise
   begun = record { hand = es; fresh = top_used h card h.n + 1; card = card }
 
@@ -94,10 +94,10 @@ module _ (h : Head) (card : List ℕ) (hq : head_of card ≡ some h) (t x s : �
   unfolding entries_on
   visit-met now v m = ap (λ (l : List Entry). record { number = v.number; entries = l }) (ap or_empty m.reads)
 
-  shift : (us : List Visit) (v : Visit) (q : List Visit) → walk h card t x ≡ some (us ++ (v ∷ q)) → walk h card t x ≡ some ((us ++ (v ∷ [])) ++ q)
-  shift us v q w = w ∙ ap some (sym (append_assoc us (v ∷ []) q))
+  shift : (us : List Visit) (v : Visit) (q : List Visit) → walk h card t x ≡ Some (us ++ (v ∷ q)) → walk h card t x ≡ Some ((us ++ (v ∷ [])) ++ q)
+  shift us v q w = w ∙ ap Some (sym (append_assoc us (v ∷ []) q))
 
-  pub rise-climb : (us q : List Visit) → walk h card t x ≡ some (us ++ q) → (climb h s q begun).fresh ≤ h.n + 1
+  pub rise-climb : (us q : List Visit) → walk h card t x ≡ Some (us ++ q) → (climb h s q begun).fresh ≤ h.n + 1
       → rise_on h s (upward q []) begun ≡ climb h s q begun
   unfolding climb upward rise_on
   rise-climb us [] w cap = refl
@@ -115,15 +115,15 @@ module _ (h : Head) (card : List ℕ) (hq : head_of card ≡ some h) (t x s : �
       ⊎ ((h.n + 1 < (climb h s q begun).fresh) × (h.n + 1 < (count_on h s card (upward q []) (tally es (top_used h card h.n + 1))).fresh))
 
   -- the entries of a path's bucket, as the card holds them
-  met-entries : (us : List Visit) (v : Visit) (q : List Visit) → walk h card t x ≡ some (us ++ (v ∷ q)) → v.entries ≡ entries_on h card v.number
+  met-entries : (us : List Visit) (v : Visit) (q : List Visit) → walk h card t x ≡ Some (us ++ (v ∷ q)) → v.entries ≡ entries_on h card v.number
   unfolding entries_on
   met-entries us v q w = sym (ap or_empty (at_last us (walk-reads h card t x (us ++ (v ∷ q)) w)))
     where
-      at_last : (us : List Visit) → Along (λ y. bucket h card y.number ≡ some y.entries) (us ++ (v ∷ q)) → bucket h card v.number ≡ some v.entries
+      at_last : (us : List Visit) → Along (λ y. bucket h card y.number ≡ Some y.entries) (us ++ (v ∷ q)) → bucket h card v.number ≡ Some v.entries
       at_last [] a = a.0
       at_last (u ∷ us) a = at_last us a.1
 
-  pub foretells : (us q : List Visit) → walk h card t x ≡ some (us ++ q) → Foretells q
+  pub foretells : (us q : List Visit) → walk h card t x ≡ Some (us ++ q) → Foretells q
   unfolding climb upward count_on
   foretells us [] w = inl refl
   foretells us (v ∷ q) w =

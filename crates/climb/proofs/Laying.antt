@@ -2,7 +2,7 @@
 use mathlib.Core.Path.{◌≡◌, refl, ◌∙◌}
 use mathlib.Core.Logic.{⊎_elim}
 use mathlib.Core.Bool.{true, false}
-use mathlib.Core.Option.{some}
+use Rattle.std.specs.Prelude.{Some}
 use mathlib.Core.List.{List, [], ◌∷◌}
 use Prim.Native.Nat.{ℕ, zero, suc, ◌+◌, ◌-◌, ◌≤◌}
 use native.Mathlib.Numerals.{add-one}
@@ -34,7 +34,7 @@ fill-up card i zero (e ∷ es) le = absurd (omega arith)
 fill-up card i (suc c) (e ∷ es) le = rw add-one (fill-up (put card i (encode e)) (suc i) c es (omega arith))
 
 -- behind the entries es of bucket b
-pub into-puts : (h : Head) (card : List ℕ) (b : ℕ) (es new : List Entry) (at : ℕ) → raw h card b ≡ some es → length es + length new ≤ h.m → at ≡ base h b + length es
+pub into-puts : (h : Head) (card : List ℕ) (b : ℕ) (es new : List Entry) (at : ℕ) → raw h card b ≡ Some es → length es + length new ≤ h.m → at ≡ base h b + length es
     → into h b new card ≡ puts card at new
 unfolding into blanks_of
 into-puts h card b es new at q le is =
@@ -47,12 +47,12 @@ pub record Logged (h : Head) (card : List ℕ) : Type 0 where
   pub used : used_of 0 (log_of h card) 0 h.n ≡ count
   pub blank : log_blanks h card ≡ up_from (1 + count) (h.n - count)
 
-sound-log : (es gs : List Entry) → sound_log es ≡ some gs → es ≡ gs
+sound-log : (es gs : List Entry) → sound_log es ≡ Some gs → es ≡ gs
 unfolding sound_log
 sound-log [] gs q = absurd (none-some q)
 sound-log (e ∷ es) gs q = (guard-true (every is_root (e ∷ es)) (e ∷ es) gs q).1
 
-pub log-reads : (h : Head) (card : List ℕ) (es : List Entry) → Shape h card → log h card ≡ some es → Logged h card
+pub log-reads : (h : Head) (card : List ℕ) (es : List Entry) → Shape h card → log h card ≡ Some es → Logged h card
 unfolding log log_of log_blanks
 log-reads h card es sh q =
     let inv = then-inv (run h.n card 1 h.n) sound_log es q in

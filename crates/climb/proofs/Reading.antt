@@ -2,7 +2,7 @@
 use mathlib.Core.Path.{◌≡◌, refl, ap, ap₂, sym, ◌∙◌, subst}
 use mathlib.Core.Logic.{⊎_elim}
 use mathlib.Core.Bool.{true, false}
-use mathlib.Core.Option.{some}
+use Rattle.std.specs.Prelude.{Some}
 use mathlib.Core.List.{List, [], ◌∷◌}
 use Prim.Native.Nat.{ℕ, zero, suc, ◌+◌, ◌-◌, ◌*◌, ◌≤◌, ◌<◌}
 use native.Mathlib.Numerals.{add-one}
@@ -65,16 +65,16 @@ unfolding fields
 held-kind n s i e q = sym (byte-first s i) ∙ ap (λ (d : Entry). d.kind) (held-inv n (sector_at s i) e q).0
 
 -- what a run says of its sectors
-pub used-run : (n : ℕ) (s : List ℕ) (u i c : ℕ) (es : List Entry) → run n s i c ≡ some es → used_of u s i c ≡ u + length es
+pub used-run : (n : ℕ) (s : List ℕ) (u i c : ℕ) (es : List Entry) → run n s i c ≡ Some es → used_of u s i c ≡ u + length es
 unfolding run
 used-run n s u i zero es q = let l : es ≡ [] = cc in let k = ap length l in omega arith
 used-run n s u i (suc c) es q =
     ⊎_elim
-    (λ (b : (decode n (sector_at s i) ≡ Blank) × (es ≡ []) × (run n s (suc i) c ≡ some [])).
+    (λ (b : (decode n (sector_at s i) ≡ Blank) × (es ≡ []) × (run n s (suc i) c ≡ Some [])).
     let z : get_or s (16 * i) 0 ≡ 0 = sym (byte-first s i) ∙ zeros-get (sector_at s i) 0 (blank-zeros n (sector_at s i) b.0) in
     let k = ap length b.1 in
     rw (eq-eqb (get_or s (16 * i) 0) 0 z) (omega arith))
-    (λ (b : (x : Entry) × (xs : List Entry) × (decode n (sector_at s i) ≡ Held x) × (es ≡ x ∷ xs) × (run n s (suc i) c ≡ some xs)).
+    (λ (b : (x : Entry) × (xs : List Entry) × (decode n (sector_at s i) ≡ Held x) × (es ≡ x ∷ xs) × (run n s (suc i) c ≡ Some xs)).
     let w = (kind-legal n b.0 (held-inv n (sector_at s i) b.0 b.2).1).0 in
     let y = held-kind n s i b.0 b.2 in
     let k = ap length b.3 in
@@ -82,14 +82,14 @@ used-run n s u i (suc c) es q =
     rw (ne_eqb (get_or s (16 * i) 0) 0 (λ (v : get_or s (16 * i) 0 ≡ 0). omega arith), add-one i) (omega arith))
     (onto-inv (decode n (sector_at s i)) (run n s (suc i) c) es q)
 
-entries-run : (n : ℕ) (s : List ℕ) (i c : ℕ) (es : List Entry) → run n s i c ≡ some es → (entries_at s i (length es) ≡ es) × AllSmall es
+entries-run : (n : ℕ) (s : List ℕ) (i c : ℕ) (es : List Entry) → run n s i c ≡ Some es → (entries_at s i (length es) ≡ es) × AllSmall es
 unfolding run
 entries-run n s i zero es q = let l : es ≡ [] = cc in subst (λ (z : List Entry). (entries_at s i (length z) ≡ z) × AllSmall z) (sym l) (refl, tt)
 entries-run n s i (suc c) es q =
     ⊎_elim
-    (λ (b : (decode n (sector_at s i) ≡ Blank) × (es ≡ []) × (run n s (suc i) c ≡ some [])).
+    (λ (b : (decode n (sector_at s i) ≡ Blank) × (es ≡ []) × (run n s (suc i) c ≡ Some [])).
     subst (λ (z : List Entry). (entries_at s i (length z) ≡ z) × AllSmall z) (sym b.1) (refl, tt))
-    (λ (b : (x : Entry) × (xs : List Entry) × (decode n (sector_at s i) ≡ Held x) × (es ≡ x ∷ xs) × (run n s (suc i) c ≡ some xs)).
+    (λ (b : (x : Entry) × (xs : List Entry) × (decode n (sector_at s i) ≡ Held x) × (es ≡ x ∷ xs) × (run n s (suc i) c ≡ Some xs)).
     let v = held-inv n (sector_at s i) b.0 b.2 in
     let ih = entries-run n s (suc i) c b.1 b.4 in
     subst (λ (z : List Entry). (entries_at s i (length z) ≡ z) × AllSmall z) (sym b.3) (
@@ -115,10 +115,10 @@ pub record Reads (h : Head) (card : List ℕ) (b : ℕ) : Type 0 where
   pub used : used_of 0 (part_of h card b) 0 h.m ≡ length (entries_on h card b)
   pub entries : entries_at (part_of h card b) 0 (length (entries_on h card b)) ≡ entries_on h card b
   pub small : AllSmall (entries_on h card b)
-  pub raws : raw h card b ≡ some (entries_on h card b)
+  pub raws : raw h card b ≡ Some (entries_on h card b)
   pub blank : blanks_of h card b ≡ up_from (base h b + length (entries_on h card b)) (h.m - length (entries_on h card b))
 
-sound-some : (es : List Entry) → sound_bucket es ≡ some es → 1 ≤ length es
+sound-some : (es : List Entry) → sound_bucket es ≡ Some es → 1 ≤ length es
 unfolding sound_bucket
 sound-some [] q = absurd (none-some q)
 sound-some (e ∷ es) q = omega arith
@@ -129,7 +129,7 @@ reads h card b sh q =
     let es = entries_on h card b in
     let r = bucket-raw h card b es q in
     let most = bucket-within h card b es sh.long q in
-    let run_is : run h.n (part_of h card b) 0 h.m ≡ some es = part-run h.n card (base h b) h.m (bucket-fits h card b sh.long r.0 most) ∙ r.1 in
+    let run_is : run h.n (part_of h card b) 0 h.m ≡ Some es = part-run h.n card (base h b) h.m (bucket-fits h card b sh.long r.0 most) ∙ r.1 in
     let e = entries-run h.n (part_of h card b) 0 h.m es run_is in
     record {
       one = r.0;

@@ -8,6 +8,7 @@ use native.Mathlib.Omega.{arith}
 use borrow.Author.Tests.{le-leb, lt-leb}
 use lib.Dec.{ltb}
 use lib.ListN.{length, take, drop}
+use Rattle.std.specs.Prelude.{Option, None, Some, is_some}
 use Rattle.rules.specs.declared.Entry.{Entry}
 use Rattle.rules.specs.declared.Head.{Head}
 use Rattle.rules.specs.Plain.{and_then}
@@ -15,12 +16,12 @@ use Rattle.rules.specs.Sector.{root_entry}
 use Rattle.rules.specs.Bucket.{log, blanks_of, log_blanks, sound_log}
 use Rattle.rules.specs.Rewrite.{Rise, into, fill, one_bucket}
 use Rattle.rules.specs.Write.{place, place_if, rooted, logged}
-use Rattle.laws.proofs.Tools.{bool_cases}
+use Rattle.laws.proofs.Tools.{bool_cases, true-false, false-true}
 use Rattle.laws.proofs.Run.{run_agree}
 use Rattle.laws.proofs.Buckets.{raw}
 use Rattle.laws.proofs.Into.{block_size, block-else, block-others, block-front}
 use Rattle.laws.proofs.Fresh.{place_if-fresh, rooted-fresh}
-use Rattle.level.specs.Level.{pairs_of, need_of, sent_list}
+use Rattle.level.specs.Level.{pairs_of, need_of, if_any, sent_list}
 use Rattle.level.specs.declared.Sent.{Sent}
 use Rattle.bucket.specs.Shapes.{Shape}
 use Rattle.climb.specs.Levels.{entries_on, risen, visit_on, rise_on, topped, kept_on, limit_on, own_card, tally, tally_at, tally_if, count_on, Read, AllRead, AllBelow, Ready}
@@ -41,12 +42,11 @@ count-closed h s card (b ∷ bs) fresh = count-closed h s card bs fresh
 sent-place : (h : Head) (s : ℕ) (b : ℕ) (p : Sent) (fresh : ℕ) (card : List ℕ)
     → place_if h s (visit_on h card b) (sent_list p) (risen (sent_list p) fresh card) ≡ place h s (visit_on h card b) (risen (sent_list p) fresh card)
 unfolding place_if
-sent-place h s b p fresh card =
-    ⊎_elim (λ (t : p.two ≡ true). rw t) (λ (t : p.two ≡ false). rw t) (bool_cases p.two)
+sent-place h s b p fresh card = refl
 
 sent-tally : (h : Head) (s : ℕ) (card : List ℕ) (b : ℕ) (p : Sent) (fresh : ℕ) → tally_if h s card b (sent_list p) fresh ≡ tally_at h s card b (sent_list p) fresh
 unfolding tally_if
-sent-tally h s card b p fresh = ⊎_elim (λ (t : p.two ≡ true). rw t) (λ (t : p.two ≡ false). rw t) (bool_cases p.two)
+sent-tally h s card b p fresh = refl
 
 module _ (h : Head) (s : ℕ) (b : ℕ) (bs : List ℕ) (p : Sent) (fresh : ℕ) (card : List ℕ) where
   -- room for all: they go in, and that is the end
@@ -147,14 +147,33 @@ ready-own h card bs fresh td es rd cap =
     ⊎_elim (λ (t : ltb (length es) td ≡ true). rw t (one (rw t at cap))) (λ (t : ltb (length es) td ≡ false). rw t (two (rw t at cap)))
     (bool_cases (ltb (length es) td))
 
+-- a second pair, and so two
+pub two-sent : (p : Sent) → is_some p.high ≡ true → length (sent_list p) ≡ 2
+two-sent p t = go p.high t
+  where
+    go : (high : Option Entry) → is_some high ≡ true → length (p.low ∷ if_any high) ≡ 2
+    go None t = absurd (false-true t)
+    go (Some d) t = omega arith
+
 -- above the root: two pairs under a further bucket, or the one bucket itself
 module _ (h : Head) (s : ℕ) (p : Sent) (fresh : ℕ) (card : List ℕ) where
-  pub root-two : p.two ≡ true
+  pub root-two : is_some p.high ≡ true
       → topped h s (risen (sent_list p) fresh card)
       ≡ risen [] (fresh + 1) (fill (into h fresh (sent_list p) card) (log_blanks h (into h fresh (sent_list p) card)) (root_entry s fresh ∷ []))
   unfolding topped rooted logged one_bucket
-  root-two t = rw t
+  root-two t = go p.high refl t
+    where
+      go : (high : Option Entry) → p.high ≡ high → is_some high ≡ true
+          → topped h s (risen (sent_list p) fresh card)
+          ≡ risen [] (fresh + 1) (fill (into h fresh (sent_list p) card) (log_blanks h (into h fresh (sent_list p) card)) (root_entry s fresh ∷ []))
+      go None q t = absurd (false-true t)
+      go (Some d) q t = rw q
 
-  pub root-one : p.two ≡ false → topped h s (risen (sent_list p) fresh card) ≡ risen [] fresh (fill card (log_blanks h card) (root_entry s p.low.value ∷ []))
+  pub root-one : is_some p.high ≡ false → topped h s (risen (sent_list p) fresh card) ≡ risen [] fresh (fill card (log_blanks h card) (root_entry s p.low.value ∷ []))
   unfolding topped rooted logged
-  root-one t = rw t
+  root-one t = go p.high refl t
+    where
+      go : (high : Option Entry) → p.high ≡ high → is_some high ≡ false
+          → topped h s (risen (sent_list p) fresh card) ≡ risen [] fresh (fill card (log_blanks h card) (root_entry s p.low.value ∷ []))
+      go None q t = rw q
+      go (Some d) q t = absurd (true-false t)

@@ -1,6 +1,6 @@
 -- The way up as the code goes it: by bucket numbers, the lowest level first, each bucket read from the card when its turn comes.
 use Rattle.std.specs.Prelude.{ℕ, ◌+◌, ◌-◌, ◌/◌, ◌≤◌, ◌<◌, ◌≡◌, Bool, true, false, List, [], ◌∷◌, ◌++◌, leb, ltb, length, take, drop}
-use Rattle.std.proofs.Math.Option.{Option, none, some}
+use Rattle.std.specs.Prelude.{Option, None, Some}
 use Rattle.rules.specs.declared.Entry.{Entry}
 use Rattle.rules.specs.declared.Head.{Head}
 use Rattle.rules.specs.Plain.{if}
@@ -11,14 +11,12 @@ use Rattle.rules.specs.Write.{place_if, rooted}
 use Rattle.laws.proofs.Buckets.{raw}
 use Rattle.bucket.specs.Shapes.{Shape}
 use Rattle.level.specs.Level.{sent_list, pairs_of, need_of, AllSmall}
-use Rattle.hand.specs.Hand.{held}
-use Rattle.hand.specs.declared.Hand.{Hand}
 use Rattle.climb.specs.declared.Renewed.{Renewed}
 use Rattle.climb.specs.declared.Needs.{Needs}
 
 abbrev pub or_empty : Option (List Entry) → List Entry
-or_empty none = []
-or_empty (some es) = es
+or_empty None = []
+or_empty (Some es) = es
 
 unfoldable pub entries_on : Head → List ℕ → ℕ → List Entry
 entries_on h card b = or_empty (bucket h card b)
@@ -92,7 +90,7 @@ upward (v ∷ p) above = upward p (v.number ∷ above)
 
 -- bucket b is read
 abbrev pub Read : Head → List ℕ → ℕ → Type 0
-Read h card b = bucket h card b ≡ some (entries_on h card b)
+Read h card b = bucket h card b ≡ Some (entries_on h card b)
 
 abbrev pub AllRead : Head → List ℕ → List ℕ → Type 0
 AllRead h card [] = Unit {0}
@@ -101,14 +99,6 @@ AllRead h card (b ∷ bs) = Read h card b × AllRead h card bs
 abbrev pub AllBelow : ℕ → List ℕ → Type 0
 AllBelow f [] = Unit {0}
 AllBelow f (b ∷ bs) = (b < f) × AllBelow f bs
-
--- a hand that is es, with a kind of one byte in each entry
-pub record Holds (es : List Entry) (h : Hand) : Type 0 where
-  pub count : h.count ≡ length (held h)
-  pub long : length h.entries ≡ 34
-  pub most : h.count ≤ 34
-  pub all : held h ≡ es
-  pub small : AllSmall (held h)
 
 -- what a level that is rewritten to hold es hands on
 pub record HandsOn (s td fresh : ℕ) (es : List Entry) (r : Renewed) : Type 0 where
@@ -123,5 +113,5 @@ pub record Ready (h : Head) (card bs : List ℕ) (fresh : ℕ) : Type 0 where
   pub reads : AllRead h card bs
   pub below : AllBelow fresh bs
   pub least : 1 ≤ fresh
-  pub free : (c : ℕ) → fresh ≤ c → c ≤ h.n → raw h card c ≡ some []
-  pub logs : (es : List Entry) × (log h card ≡ some es)
+  pub free : (c : ℕ) → fresh ≤ c → c ≤ h.n → raw h card c ≡ Some []
+  pub logs : (es : List Entry) × (log h card ≡ Some es)

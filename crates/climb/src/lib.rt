@@ -1,20 +1,18 @@
 // The way up of a write: the fresh buckets are counted first, so that a refusal is known before a byte is written; then the levels are written, the lowest first.
 #![tactic(auto)]
 
-ghost use Rattle.std.specs.Prelude.{◌≡◌, List, [], ◌∷◌, ◌+◌, ◌-◌, ◌*◌, ◌≤◌, ◌<◌, length, drop};
-ghost use Rattle.std.proofs.Math.Option.{some};
-ghost use Rattle.std.proofs.Math.Seq.{slice};
+ghost use Rattle.std.specs.Prelude.{◌≡◌, List, [], ◌∷◌, ◌+◌, ◌-◌, ◌*◌, ◌≤◌, ◌<◌, length, Some};
 ghost use Rattle.rules.specs.declared.Entry.{Entry};
 ghost use Rattle.rules.specs.Sector.{root_entry};
 ghost use Rattle.rules.specs.Layout.{base};
 ghost use Rattle.rules.specs.Bucket.{log, log_blanks};
 ghost use Rattle.rules.specs.Rewrite.{fill, into};
 ghost use Rattle.laws.proofs.Buckets.{raw};
-ghost use Rattle.hand.specs.Hand.{held};
 ghost use Rattle.level.specs.Level.{sent_list, need_of, AllSmall};
 ghost use Rattle.bucket.specs.Shapes.{Shape};
-ghost use Rattle.climb.specs.Levels.{entries_on, kept_on, limit_on, own_card, tally, count_on, needs_of, risen, topped, Read, AllRead, Ready, Holds, HandsOn};
+ghost use Rattle.climb.specs.Levels.{entries_on, kept_on, limit_on, own_card, tally, count_on, needs_of, risen, topped, Read, AllRead, Ready, HandsOn};
 
+use bucket::Card;
 use hand::Hand;
 use level::Sent;
 use rules::{Entry, Head};
@@ -33,6 +31,7 @@ pub struct Needs {
     pub root: bool,
 }
 
+// A function of the geometry alone: it is asked for cards that are read and for cards that are written.
 pub fn first_sector(head: Head, b: usize) -> usize
     requires { (head.m ≤ 32) × (head.n ≤ 4096) × (1 ≤ b) × (b ≤ head.n) }
     ensures { result ≡ base head b }
@@ -41,136 +40,112 @@ pub fn first_sector(head: Head, b: usize) -> usize
 }
 
 // How many entries bucket b holds.
-pub fn used_in(card: &[u8], head: Head, b: u32) -> usize
-    requires { Shape head card.now × Read head card.now b }
-    ensures { (result ≡ length (entries_on head card.now b)) × (1 ≤ result) × (result ≤ head.m) }
+pub fn used_in(card: &Card, b: u32) -> usize
+    requires { Read card.now.head card.now.bytes.now b }
+    ensures { (result ≡ length (entries_on card.now.head card.now.bytes.now b)) × (1 ≤ result) × (result ≤ card.now.head.m) }
 {
-    let part = bucket::bucket_part(card, head, b);
-    let m = head.m;
-    level::used(part, m)
+    level::used(card.bucket(b), card.head.m)
 }
 
 // What is kept of bucket b, which holds `used` entries, and of what was sent to it.
-fn kept_in(card: &[u8], head: Head, b: u32, used: usize, p: Sent, stamp: u32) -> Hand
-    requires shape { Shape head card.now × Read head card.now b }
-    requires used_value { (used ≡ length (entries_on head card.now b)) × AllSmall (sent_list p) }
-    ensures { Holds (kept_on head stamp card.now b (sent_list p)) result × (result.count ≤ used + 2) }
+fn kept_in(card: &Card, b: u32, used: usize, p: Sent, stamp: u32) -> Hand
+    requires read { Read card.now.head card.now.bytes.now b × (used ≡ length (entries_on card.now.head card.now.bytes.now b)) }
+    requires small { AllSmall (sent_list p) }
+    ensures { (result ≡ kept_on card.now.head stamp card.now.bytes.now b (sent_list p)) × (length result ≤ used + 2) × AllSmall result }
 {
-    let part = bucket::bucket_part(card, head, b);
-    level::regrouped(part, used, p, stamp)
+    level::regrouped(card.bucket(b), used, p, stamp)
 }
 
-fn limit_in(card: &[u8], head: Head, b: u32, used: usize) -> usize
-    requires { Shape head card.now × Read head card.now b × (used ≡ length (entries_on head card.now b)) }
-    ensures { (result ≡ limit_on head card.now b) × (2 ≤ result) × (result ≤ head.m) }
+fn limit_in(card: &Card, b: u32, used: usize) -> usize
+    requires { Read card.now.head card.now.bytes.now b × (used ≡ length (entries_on card.now.head card.now.bytes.now b)) }
+    ensures { (result ≡ limit_on card.now.head card.now.bytes.now b) × (2 ≤ result) × (result ≤ card.now.head.m) }
 {
-    let part = bucket::bucket_part(card, head, b);
-    level::limit(part, used, head)
+    level::limit(card.bucket(b), used, card.head)
 }
 
-// The pairs of the buckets that take the hand, numbered from `fresh`.
-fn sent_up(h: Hand, limit: usize, fresh: usize, stamp: u32) -> Renewed
-    requires { (h.count ≡ length (held h)) × (h.count ≤ 34) × (fresh ≤ 20000) }
-    ensures { HandsOn stamp limit fresh (held h) result }
+// The pairs of the buckets that take these entries, numbered from `fresh`.
+fn sent_up(entries: &[Entry], limit: usize, fresh: usize, stamp: u32) -> Renewed
+    requires { fresh ≤ 20000 }
+    ensures { HandsOn stamp limit fresh entries.now result }
 {
-    let sent = level::pairs(h, limit, fresh, stamp);
-    let next = fresh + level::fresh_needed(h, limit);
-    Renewed { sent, fresh: next }
+    Renewed {
+        sent: level::pairs(entries, limit, fresh, stamp),
+        fresh: fresh + level::fresh_needed(entries, limit),
+    }
 }
 
 // What a rewrite of bucket b would hand on. The hand has no name here, so that it is not copied: this is in a frame that stays.
-fn renewal(
-    card: &[u8],
-    head: Head,
-    b: u32,
-    used: usize,
-    p: Sent,
-    fresh: usize,
-    stamp: u32,
-) -> Renewed
-    requires shape { Shape head card.now × Read head card.now b × (used ≡ length (entries_on head card.now b)) }
-    requires all_small { AllSmall (sent_list p) × (fresh ≤ 20000) }
-    ensures { HandsOn stamp (limit_on head card.now b) fresh (kept_on head stamp card.now b (sent_list p)) result }
+fn renewal(card: &Card, b: u32, used: usize, p: Sent, fresh: usize, stamp: u32) -> Renewed
+    requires read { Read card.now.head card.now.bytes.now b × (used ≡ length (entries_on card.now.head card.now.bytes.now b)) }
+    requires small { AllSmall (sent_list p) × (fresh ≤ 20000) }
+    ensures { HandsOn stamp (limit_on card.now.head card.now.bytes.now b) fresh (kept_on card.now.head stamp card.now.bytes.now b (sent_list p)) result }
 {
-    let limit = limit_in(card, head, b, used);
-    sent_up(kept_in(card, head, b, used, p, stamp), limit, fresh, stamp)
+    let limit = limit_in(card, b, used);
+    sent_up(
+        kept_in(card, b, used, p, stamp).as_slice(),
+        limit,
+        fresh,
+        stamp,
+    )
 }
 
 // Above the root: two pairs want a bucket more, and any pair is a new root.
+#[tactic(auto, unfolding(crate::specs::Levels::needs_of, crate::specs::Levels::fresh_over, crate::specs::Levels::is_open))]
 fn over(p: Sent, fresh: usize) -> Needs
     requires { fresh ≤ 20000 }
     ensures { result ≡ needs_of (tally (sent_list p) fresh) }
 {
-    if p.two {
-        return Needs {
-            fresh: fresh + 1,
-            root: true,
-        };
-    }
+    let fresh = if p.high.is_some() { fresh + 1 } else { fresh };
     Needs { fresh, root: true }
 }
 
-// What the write will need, the path's buckets from `at` on being the levels, the lowest first.
-pub fn count(
-    card: &[u8],
-    head: Head,
-    path: &[u32],
-    at: usize,
-    p: Sent,
-    fresh: usize,
-    stamp: u32,
-) -> Needs
-    requires shape { Shape head card.now × AllRead head card.now (drop at path.now) × AllSmall (sent_list p) }
-    requires at_in_bounds { (at ≤ length path.now) × (length path.now ≤ 4096) × (fresh ≤ 4097) }
-    ensures { result ≡ needs_of (count_on head stamp card.now (drop at path.now) (tally (sent_list p) fresh)) }
+// What the write will need, given the levels' buckets, the lowest first.
+pub fn count(card: &Card, levels: &[u32], p: Sent, fresh: usize, stamp: u32) -> Needs
+    requires read { AllRead card.now.head card.now.bytes.now levels.now × AllSmall (sent_list p) }
+    requires bounds { (length levels.now ≤ 4096) × (fresh ≤ 4097) }
+    ensures { result ≡ needs_of (count_on card.now.head stamp card.now.bytes.now levels.now (tally (sent_list p) fresh)) }
 {
-    let m = head.m;
-    let mut i = at;
     let mut sent = p;
     let mut next = fresh;
-    while i < path.len() {
-        let b = path[i];
-        let u = used_in(card, head, b);
-        let k = level::sent_count(sent);
-        if u + k <= m {
+    for b in levels {
+        let used = used_in(card, *b);
+        if used + level::sent_count(sent) <= card.head.m {
             return Needs {
                 fresh: next,
                 root: false,
             };
         }
-        let r = renewal(card, head, b, u, sent, next, stamp);
-        let s = r.sent;
-        sent = s;
+        let r = renewal(card, *b, used, sent, next, stamp);
+        sent = r.sent;
         next = r.fresh;
-        i += 1;
     }
     over(sent, next)
 }
 
-// Entries from..to of the hand fill the fresh bucket b.
-fn write_new(card: &mut [u8], head: Head, b: usize, h: Hand, from: usize, to: usize)
-    requires shape { Shape head card.old × (1 ≤ b) × (b ≤ head.n) × (raw head card.old b ≡ some []) }
-    requires from_le_to { (from ≤ to) × (to ≤ 34) × (to - from ≤ head.m) × (length h.entries ≡ 34) × AllSmall (slice from to h.entries) }
-    ensures { card.new ≡ into head b (slice from to h.entries) card.old }
+// These entries fill the fresh bucket b. What writes takes bytes and head, here and in the crates above, and no type round the two: with
+// bytes lent to be changed each contract would say besides that the head stays, and each loop and call of itself would lend the type anew.
+fn write_new(card: &mut [u8], head: Head, b: usize, entries: &[Entry])
+    requires fresh { Shape head card.old × (1 ≤ b) × (b ≤ head.n) × (raw head card.old b ≡ Some []) }
+    requires fits { (length entries.now ≤ head.m) × AllSmall entries.now }
+    ensures { card.new ≡ into head b entries.now card.old }
 {
-    let at = first_sector(head, b);
-    level::write_run(card, at, h, from, to);
+    level::write_run(card, first_sector(head, b), entries);
 }
 
-// The hand fills one fresh bucket, or two with the larger half first.
-fn write_own(card: &mut [u8], head: Head, fresh: usize, h: Hand, limit: usize)
-    requires ready { Ready head card.old [] fresh × (fresh + need_of limit (held h) ≤ head.n + 1) }
-    requires holds { Holds (held h) h × (h.count ≤ head.m + 2) × (limit ≤ head.m) }
-    ensures { card.new ≡ own_card head limit fresh (held h) card.old }
+// The entries fill one fresh bucket, or two with the larger half first.
+fn write_own(card: &mut [u8], head: Head, fresh: usize, entries: &[Entry], limit: usize)
+    requires ready { Ready head card.old [] fresh × (fresh + need_of limit entries.now ≤ head.n + 1) }
+    requires fits { AllSmall entries.now × (length entries.now ≤ head.m + 2) × (limit ≤ head.m) }
+    ensures { card.new ≡ own_card head limit fresh entries.now card.old }
 {
-    let n = h.count;
+    let n = entries.len();
     if n < limit {
-        write_new(card, head, fresh, h, 0, n);
-    } else {
-        let cut = hand::halved(n);
-        write_new(card, head, fresh, h, 0, cut);
-        write_new(card, head, fresh + 1, h, cut, n);
+        write_new(card, head, fresh, entries);
+        return;
     }
+    let (first, second) = entries.split_at(hand::halved(n));
+    write_new(card, head, fresh, first);
+    write_new(card, head, fresh + 1, second);
 }
 
 // Bucket b, which holds `used` entries, is rewritten with what was sent to it into fresh buckets. The hand lives here and not in the function over the path, whose frame stays small.
@@ -188,10 +163,11 @@ pub fn rewrite(
     ensures hands_on { HandsOn stamp (limit_on head card.old b) fresh (kept_on head stamp card.old b (sent_list p)) result }
     ensures card_after { card.new ≡ own_card head (limit_on head card.old b) fresh (kept_on head stamp card.old b (sent_list p)) card.old }
 {
-    let h = kept_in(card, head, b, used, p, stamp);
-    let limit = limit_in(card, head, b, used);
-    write_own(card, head, fresh, h, limit);
-    sent_up(h, limit, fresh, stamp)
+    let before = Card { bytes: card, head };
+    let hand = kept_in(&before, b, used, p, stamp);
+    let limit = limit_in(&before, b, used);
+    write_own(card, head, fresh, hand.as_slice(), limit);
+    sent_up(hand.as_slice(), limit, fresh, stamp)
 }
 
 // What was sent goes into the first blanks of bucket b.
@@ -206,21 +182,14 @@ pub fn write_in(card: &mut [u8], head: Head, b: u32, used: usize, p: Sent)
 
 // A new root's entry, at the first blank of the log.
 fn write_log(card: &mut [u8], head: Head, root: u32, stamp: u32)
-    requires { Shape head card.old × ((es : List Entry) × (log head card.old ≡ some es)) }
+    requires { Shape head card.old × ((es : List Entry) × (log head card.old ≡ Some es)) }
     ensures { card.new ≡ fill card.old (log_blanks head card.old) (root_entry stamp root ∷ []) }
 {
     let n = head.n;
-    let used = level::used(bucket::log_part(card, head), n);
+    let used = level::used(Card { bytes: card, head }.log(), n);
     let room = used < n;
     if room {
-        let e = Entry {
-            kind: 4,
-            status: 0,
-            key: 0,
-            stamp,
-            value: root,
-        };
-        writer::write_entry(card, 1 + used, e);
+        writer::write_entry(card, 1 + used, Entry::root(stamp, root));
     }
 }
 
@@ -230,12 +199,10 @@ pub fn new_root(card: &mut [u8], head: Head, p: Sent, fresh: usize, stamp: u32)
     requires card_bound { (topped head stamp (risen (sent_list p) fresh card.old)).fresh ≤ head.n + 1 }
     ensures { card.new ≡ (topped head stamp (risen (sent_list p) fresh card.old)).card }
 {
-    let low = p.low;
-    if p.two {
-        let at = first_sector(head, fresh);
-        level::write_sent(card, at, p);
+    if p.high.is_some() {
+        level::write_sent(card, first_sector(head, fresh), p);
         write_log(card, head, fresh as u32, stamp);
     } else {
-        write_log(card, head, low.value, stamp);
+        write_log(card, head, p.low.value, stamp);
     }
 }

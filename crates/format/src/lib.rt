@@ -1,24 +1,28 @@
 // Format: a blank card becomes one with no result.
 #![tactic(auto)]
 
-ghost use Rattle.std.specs.Prelude.{◌≡◌, true, ◌-◌, ◌/◌, length};
+ghost use Rattle.std.specs.Prelude.{◌≡◌, true, ◌-◌, ◌/◌, length, MatchResult};
 ghost use Rattle.rules.specs.Plain.{zeros};
 ghost use Rattle.rules.specs.Layout.{limits, size_of};
-ghost use Rattle.rules.specs.Write.{plan_answer, plan_card};
+ghost use Rattle.rules.specs.Refusals.{number};
+ghost use Rattle.rules.specs.Write.{refuse, accept, plan_answer, plan_card};
 ghost use Rattle.rules.specs.Format.{or_else, meant, formatted, format_for, format};
 
-use rules::{Answer, Entry, Head};
+use rules::{Answer, Entry, Head, Refusal};
 
+// A number, or what stands for it where it is 0.
+#[tactic(auto, unfolding(rules::specs::Format::or_else))]
 fn or_else(x: usize, other: usize) -> usize
     ensures { result ≡ or_else x other }
 {
-    if x == 0 {
-        return other;
+    match x {
+        0 => other,
+        _ => x,
     }
-    x
 }
 
 // The geometry that the numbers mean: 0 stands for the defaults.
+#[tactic(auto, unfolding(rules::specs::Format::meant))]
 pub fn meant(buckets: u32, sectors: u32, td: u32, ti: u32) -> Head
     ensures { result ≡ meant buckets sectors td ti }
 {
@@ -38,52 +42,35 @@ fn lay_out(card: &mut [u8], head: Head)
 {
     let first = 1 + head.n;
     let second = first + head.m;
-    let root = Entry {
-        kind: 4,
-        status: 0,
-        key: 0,
-        stamp: 0,
-        value: 1,
-    };
-    let index = Entry {
-        kind: 3,
-        status: 0,
-        key: 0,
-        stamp: 0,
-        value: 2,
-    };
-    let dummy = Entry {
-        kind: 2,
-        status: 0,
-        key: 0,
-        stamp: 0,
-        value: 0,
-    };
     writer::write_head(card, head, 0);
-    writer::write_entry(card, 1, root);
-    writer::write_entry(card, first, index);
-    writer::write_entry(card, second, dummy);
+    writer::write_entry(card, 1, Entry::root(0, 1));
+    writer::write_entry(card, first, Entry::index(0, 0, 2));
+    writer::write_entry(card, second, Entry::strike(0, 0));
 }
 
-fn format_for(card: &mut [u8], head: Head) -> Answer
-    ensures value { result ≡ plan_answer (format_for card.old head) }
-    ensures card_after { card.new ≡ plan_card card.old (format_for card.old head) }
+// The card laid out, or what refuses it: first the geometry, whether or not the card is blank.
+#[tactic(auto, unfolding(rules::specs::Format::format_for, rules::specs::Write::refuse_if))]
+fn format_for(card: &mut [u8], head: Head) -> Result<(), Refusal>
+    ensures { MatchResult result (λ _. format_for card.old head ≡ accept card.new) (λ r. (format_for card.old head ≡ refuse (number r)) × (card.new ≡ card.old)) }
 {
-    if walk::head::suits(head, card.len()) {
-        if sector::all_zero(card) {
-            lay_out(card, head);
-            return walk::refusal(0);
-        }
-        return walk::refusal(9);
+    if !walk::head::suits(head, card.len()) {
+        return Err(Refusal::Shape);
     }
-    walk::refusal(8)
+    if !sector::all_zero(card) {
+        return Err(Refusal::NotBlank);
+    }
+    lay_out(card, head);
+    Ok(())
 }
 
 // A card of the lent length with this geometry, empty of results.
+#[tactic(auto, unfolding(rules::specs::Format::format, rules::specs::Write::plan_answer, rules::specs::Write::plan_card, rules::specs::Answers::refused, rules::specs::Answers::ended))]
 pub fn format(card: &mut [u8], buckets: u32, sectors: u32, td: u32, ti: u32) -> Answer
     ensures value { result ≡ plan_answer (format card.old buckets sectors td ti) }
     ensures card_after { card.new ≡ plan_card card.old (format card.old buckets sectors td ti) }
 {
-    let head = meant(buckets, sectors, td, ti);
-    format_for(card, head)
+    match format_for(card, meant(buckets, sectors, td, ti)) {
+        Ok(()) => Answer::end(),
+        Err(refusal) => Answer::from(refusal),
+    }
 }

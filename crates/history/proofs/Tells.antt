@@ -2,15 +2,18 @@
 use mathlib.Core.Path.{◌≡◌, refl, ap, ap₂, sym, ◌∙◌, subst}
 use mathlib.Core.Logic.{⊎_elim}
 use mathlib.Core.Bool.{Bool, true, false}
-use mathlib.Core.Option.{Option, none, some}
+use Rattle.std.specs.Prelude.{Option, None, Some, Result, Ok, Err}
 use Prim.Native.Nat.{ℕ, suc, ◌+◌, ◌*◌, ◌≤◌, ◌<◌}
 use native.Mathlib.Omega.{arith}
-use mathlib.Core.List.{List, [], ◌∷◌, ◌++◌, append-nil}
+use mathlib.Core.List.{List, [], ◌∷◌, ◌++◌}
 use lib.Dec.{eqb}
 use lib.ListN.{length, length-append}
 use borrow.Author.Tests.{le-leb, lt-leb, eq-eqb, ne_eqb, eqb-true, lt-ltb, le-ltb}
 use Rattle.rules.specs.declared.Entry.{Entry}
 use Rattle.rules.specs.declared.Head.{Head}
+use Rattle.rules.specs.declared.refusal.Refusal.{Refusal}
+use Rattle.rules.specs.declared.refusal.Refusal.TheVariants.{NoRoom}
+use Rattle.rules.specs.Refusals.{number}
 use Rattle.rules.specs.Layout.{head_of, beginning}
 use Rattle.rules.specs.Plain.{only, keep_if}
 use Rattle.rules.specs.Records.{Roll, roll}
@@ -24,114 +27,105 @@ use Rattle.laws.proofs.Bytes.{held-inv}
 use Rattle.laws.proofs.Entries.{legal-status}
 use Rattle.laws.proofs.Lists.{All, all_both, all_map}
 use Rattle.laws.proofs.Tools.{bool_cases, le-or-lt, none-some}
-use Rattle.gather.specs.Pages.{asked, wanted, said_of, said, firsts, onward}
-use Rattle.gather.proofs.Paging.{Split, page-split, some_inj, said-data, said_all}
-use Rattle.history.specs.declared.Fit.{Fit}
-use Rattle.history.specs.declared.Fit.TheVariants.{Damage, Short, Fits}
-use Rattle.history.specs.Told.{fit_after, row_of}
+use Rattle.gather.specs.Pages.{asked, wanted, said_of, said, firsts}
+use Rattle.gather.proofs.Paging.{page-split, said-data, said_all}
+use Rattle.history.specs.Told.{after, rest_from, fit_after, row_of, HasRoom}
 
 -- entries in a row, one after the other
 puts-append : (buffer : List ℕ) (k : ℕ) (xs ys : List Entry) → puts buffer k (xs ++ ys) ≡ puts (puts buffer k xs) (k + length xs) ys
 puts-append buffer k [] ys = let z : k + 0 ≡ k = omega arith in rw z
 puts-append buffer k (x ∷ xs) ys = let z : k + suc (length xs) ≡ k + 1 + length xs = omega arith in rw z (puts-append (put buffer k (encode x)) (k + 1) xs ys)
 
-fit_is : (places k : ℕ) (es : List Entry) → k + length es ≤ places → fit_after places k (some es) ≡ Fits (k + length es)
+fit_is : (places k : ℕ) (es : List Entry) → k + length es ≤ places → fit_after places k (Some es) ≡ Ok (k + length es)
 unfolding fit_after
 fit_is places k es le = rw (le-leb (k + length es) places le)
 
-fit-not : (places k : ℕ) (es : List Entry) → places < k + length es → fit_after places k (some es) ≡ Short
+fit-not : (places k : ℕ) (es : List Entry) → places < k + length es → fit_after places k (Some es) ≡ Err NoRoom
 unfolding fit_after
 fit-not places k es lt = rw (lt-leb (k + length es) places lt)
 
-pub fit_none : (places k : ℕ) (o : Option (List Entry)) (R : Fit) → fit_after places k o ≡ R → o ≡ none → Damage ≡ R
+-- a page that is still to be turned
+abbrev pub waiting : Option ℕ → ℕ
+waiting None = 0
+waiting (Some f) = 1
+
+-- a count that is over the places, or at its end
+module _ (places k : ℕ) (o : Option (List Entry)) (R : Result ℕ Refusal) (h : fit_after places k o ≡ R) where
+  pub count-over : (es : List Entry) → o ≡ Some es → places < k → Err NoRoom ≡ R
+  count-over es q lt = sym (ap (fit_after places k) q ∙ fit-not places k es (omega arith)) ∙ h
+
+  pub count-end : o ≡ Some [] → k ≤ places → Ok k ≡ R
+  count-end q le = let e : k + 0 ≡ k = omega arith in rw e at (sym (ap (fit_after places k) q ∙ fit_is places k [] (omega arith)) ∙ h)
+
+-- entries that were counted as fitting have room
+abbrev RoomIf : ℕ → Option (List Entry) → Result ℕ Refusal → Type 0
+RoomIf size o (Ok x) = HasRoom size 0 o
+RoomIf size o (Err r) = Unit {0}
+
+room-if : (places size : ℕ) → 16 * places ≤ size → (o : Option (List Entry)) → RoomIf size o (fit_after places 0 o)
 unfolding fit_after
-fit_none places k o R h q = rw q at h
+room-if places size all None = tt
+room-if places size all (Some es) =
+    ⊎_elim (λ (le : 0 + length es ≤ places). rw (le-leb (0 + length es) places le) (omega arith)) (λ (lt : places < 0 + length es). rw (lt-leb (0 + length es) places lt) tt)
+    (le-or-lt (0 + length es) places)
 
-damage-short : Damage ≡ Short → ⊥
-damage-short q = let z : ◌≡◌ {A = ℕ} 0 1 = cc in omega arith
+pub room-fit : (places size : ℕ) → 16 * places ≤ size → (o : Option (List Entry)) (x : ℕ) → Ok x ≡ fit_after places 0 o → HasRoom size 0 o
+room-fit places size all o x q = subst (RoomIf size o) (sym q) (room-if places size all o)
 
--- a list that fits in so many places, having so many entries
-short-fits : (x : ℕ) → Short ≡ Fits x → ⊥
-short-fits x q = let z : ◌≡◌ {A = ℕ} 0 1 = cc in omega arith
+-- a page, and what is said from where the next begins
+module _ (bib t f : ℕ) (o : Option (List Entry)) (l : List Entry) (page : Some l ≡ firsts (said_of bib t f o)) (few : length l ≤ 34) where
+  abbrev Onward : Type 0
+  Onward = (rest : List Entry) × (said_of bib t f o ≡ Some (l ++ rest)) × (rest_from (λ g. said_of bib t g o) (after l) ≡ Some rest)
 
-damage-fits : (x : ℕ) → Damage ≡ Fits x → ⊥
-damage-fits x q = let z : ◌≡◌ {A = ℕ} 0 1 = cc in omega arith
+  pub page-on : Onward
+  unfolding rest_from after
+  page-on =
+      let s = page-split bib t f o l page in
+      ⊎_elim
+      (λ (full : 34 ≤ length l). (s.0, s.1, rw (le-ltb (length l) 34 full) (s.3 (omega arith))))
+      (λ (short : length l < 34). (s.0, s.1, rw (lt-ltb (length l) 34 short) (ap Some (sym (s.2 short)))))
+      (le-or-lt 34 (length l))
 
-fits-inj : (x y : ℕ) → Fits x ≡ Fits y → x ≡ y
-fits-inj x y q = cc
+  pub count-on : (places k : ℕ) (R : Result ℕ Refusal) → fit_after places k (said_of bib t f o) ≡ R
+      → fit_after places (k + length l) (rest_from (λ g. said_of bib t g o) (after l)) ≡ R
+  unfolding fit_after
+  count-on places k R h =
+      let on = page-on in
+      let many : k + length l + length on.0 ≡ k + length (l ++ on.0) = (let z = length-append l on.0 in omega arith) in
+      rw (on.2, many) (rw on.1 at h)
 
-pub fit-inv : (places k : ℕ) (o : Option (List Entry)) (x : ℕ) → fit_after places k o ≡ Fits x → (es : List Entry) × (o ≡ some es) × (k + length es ≡ x) × (x ≤ places)
-unfolding fit_after
-fit-inv places k none x q = absurd (damage-fits x q)
-fit-inv places k (some es) x q =
-    ⊎_elim
-    (λ (le : k + length es ≤ places). let z : k + length es ≡ x = fits-inj (k + length es) x (sym (fit_is places k es le) ∙ q) in (es, refl, z, omega arith))
-    (λ (lt : places < k + length es). absurd (short-fits x (sym (fit-not places k es lt) ∙ q)))
-    (le-or-lt (k + length es) places)
-
--- as many places as there are entries do
-pub fit-exact : (places : ℕ) (o : Option (List Entry)) (x : ℕ) → Fits x ≡ fit_after places 0 o → (fit_after x 0 o ≡ Fits x) × (x ≤ places)
-fit-exact places o x q =
-    let i = fit-inv places 0 o x (sym q) in
-    let len = i.2 in
-    (ap (fit_after x 0) i.1 ∙ fit_is x 0 i.0 (omega arith) ∙ ap Fits len, i.3)
-
--- a page counted, k entries being before it
-module _ (bib t f : ℕ) (o : Option (List Entry)) (l : List Entry) (page : some l ≡ firsts (said_of bib t f o)) where
-  split : Split bib t f o l
-  split = page-split bib t f o l page
-
-  module _ (places k : ℕ) (R : Fit) (h : fit_after places k (said_of bib t f o) ≡ R) where
-    pub count-over : places < k + length l → Short ≡ R
-    count-over lt =
-        let many = length-append l split.0 in
-        sym (ap (fit_after places k) split.1 ∙ fit-not places k (l ++ split.0) (omega arith)) ∙ h
-
-    pub count-last : length l < 34 → k + length l ≤ places → Fits (k + length l) ≡ R
-    count-last few le =
-        let all : said_of bib t f o ≡ some l = split.1 ∙ ap (λ (z : List Entry). some (l ++ z)) (split.2 few) ∙ ap some (append-nil l) in
-        sym (ap (fit_after places k) all ∙ fit_is places k l le) ∙ h
-
-    pub count-more : length l ≡ 34 → fit_after places (k + 34) (said_of bib t (onward l) o) ≡ R
-    unfolding fit_after
-    count-more full =
-        let many : k + 34 + length split.0 ≡ k + length (l ++ split.0) = (let z = length-append l split.0 in omega arith) in
-        rw (split.3 full, many) (rw split.1 at h)
-
-  -- its entries have room where all have
-  pub room-page : (places k : ℕ) → fit_after places k (said_of bib t f o) ≡ Fits places → k + length l ≤ places
-  room-page places k h =
-      let i = fit-inv places k (said_of bib t f o) places h in
-      let len = i.2 in
-      let same : length i.0 ≡ length (l ++ split.0) = ap length (some_inj i.0 (l ++ split.0) (sym i.1 ∙ split.1)) in
-      let many = length-append l split.0 in
+  pub room-page : (size k : ℕ) → HasRoom size k (said_of bib t f o) → 16 * (k + length l) ≤ size
+  room-page size k h =
+      let on = page-on in
+      let room = rw on.1 at h in
+      let many = length-append l on.0 in
       omega arith
 
+  pub room-on : (size k : ℕ) → HasRoom size k (said_of bib t f o) → HasRoom size (k + length l) (rest_from (λ g. said_of bib t g o) (after l))
+  room-on size k h =
+      let on = page-on in
+      let room = rw on.1 at h in
+      let many = length-append l on.0 in
+      rw on.2 (omega arith)
+
   -- the same page laid down
-  module _ (k : ℕ) (out new : List ℕ) (w : new ≡ puts out k l) (R : List ℕ) (h : row_of out k (said_of bib t f o) ≡ R) where
-    pub lay-last : length l < 34 → new ≡ R
-    unfolding row_of
-    lay-last few =
-        let all : said_of bib t f o ≡ some l = split.1 ∙ ap (λ (z : List Entry). some (l ++ z)) (split.2 few) ∙ ap some (append-nil l) in
-        w ∙ (rw all at h)
+  pub lay-on : (k : ℕ) (out new : List ℕ) → new ≡ puts out k l → (R : List ℕ) → row_of out k (said_of bib t f o) ≡ R
+      → row_of new (k + length l) (rest_from (λ g. said_of bib t g o) (after l)) ≡ R
+  unfolding row_of
+  lay-on k out new w R h =
+      let on = page-on in
+      rw (on.2, w) (sym (puts-append out k l on.0) ∙ (rw on.1 at h))
 
-    pub lay-more : length l ≡ 34 → row_of new (k + 34) (said_of bib t (onward l) o) ≡ R
-    unfolding row_of
-    lay-more full =
-        let app : puts out k (l ++ split.0) ≡ puts (puts out k l) (k + 34) split.0 = puts-append out k l split.0 ∙ ap (λ (z : ℕ). puts (puts out k l) (k + z) split.0) full in
-        rw (split.3 full, w) (sym app ∙ (rw split.1 at h))
+pub after-waits : (l : List Entry) → waiting (after l) ≤ length l
+unfolding after
+after-waits l =
+    ⊎_elim (λ (full : 34 ≤ length l). rw (le-ltb (length l) 34 full) (omega arith)) (λ (short : length l < 34). rw (lt-ltb (length l) 34 short) (omega arith)) (le-or-lt 34 (length l))
 
--- nothing is left
-pub lay-end : (bib t f : ℕ) (o : Option (List Entry)) (total k : ℕ) (out R : List ℕ) → fit_after total k (said_of bib t f o) ≡ Fits total → total ≤ k → row_of out k (said_of bib t f o) ≡ R → out ≡ R
-unfolding row_of
-lay-end bib t f o total k out R fit le h =
-    let i = fit-inv total k (said_of bib t f o) total fit in
-    let len = i.2 in
-    none_left i.0 (omega arith) (rw i.1 at h)
-  where
-    none_left : (es : List Entry) → length es ≤ 0 → puts out k es ≡ R → out ≡ R
-    none_left [] z q = q
-    none_left (e ∷ es) z q = absurd (omega arith)
+-- a page is there only after a full one
+pub after-full : (l : List Entry) (f : ℕ) → length l ≤ 34 → Some f ≡ after l → length l ≡ 34
+unfolding after
+after-full l f few q =
+    ⊎_elim (λ (full : 34 ≤ length l). omega arith) (λ (short : length l < 34). absurd (none-some (sym (rw (lt-ltb (length l) 34 short) at q)))) (le-or-lt 34 (length l))
 
 -- what history tells, by what fits
 only-ext : (p q : Entry → Bool) → ((e : Entry) → p e ≡ q e) → (es : List Entry) → only p es ≡ only q es
@@ -147,36 +141,35 @@ same-list : (bib t : ℕ) → (bib ≡ 0 → ⊥) → (es : List Entry) → by_s
 same-list bib t n es = ap by_stamp (only-ext (wanted bib t 0) (says_of bib t) (wanted-says bib t n) es)
 
 -- the answer that goes with what fits
-abbrev pub Tells : Option (List Entry) → Fit → Roll → Type 0
-Tells o Damage told = told ≡ roll 4 []
-Tells o Short told = told ≡ roll 15 []
-Tells o (Fits x) told = (es : List Entry) × (o ≡ some es) × (told ≡ roll 0 es) × (length es ≡ x)
+abbrev pub Tells : Option (List Entry) → Result ℕ Refusal → Roll → Type 0
+Tells o (Err r) told = told ≡ roll (number r) []
+Tells o (Ok x) told = (es : List Entry) × (o ≡ Some es) × (told ≡ roll 0 es) × (length es ≡ x)
 
-fitting-tells : (places : ℕ) (es : List Entry) → Tells (some es) (fit_after places 0 (some es)) (fitting places es)
+fitting-tells : (places : ℕ) (es : List Entry) → Tells (Some es) (fit_after places 0 (Some es)) (fitting places es)
 unfolding fitting
 fitting-tells places es =
     let z : 0 + length es ≡ length es = omega arith in
     ⊎_elim
     (λ (le : length es ≤ places).
-    subst (λ (r : Fit). Tells (some es) r (fitting places es)) (sym (fit_is places 0 es (omega arith))) (es, refl, rw (le-leb (length es) places le), sym z))
+    subst (λ (r : Result ℕ Refusal). Tells (Some es) r (fitting places es)) (sym (fit_is places 0 es (omega arith))) (es, refl, rw (le-leb (length es) places le), sym z))
     (λ (lt : places < length es).
-    subst (λ (r : Fit). Tells (some es) r (fitting places es)) (sym (fit-not places 0 es (omega arith))) (rw (lt-leb (length es) places lt)))
+    subst (λ (r : Result ℕ Refusal). Tells (Some es) r (fitting places es)) (sym (fit-not places 0 es (omega arith))) (rw (lt-leb (length es) places lt)))
     (le-or-lt (length es) places)
 
 on-tells : (bib t : ℕ) → (bib ≡ 0 → ⊥) → (places : ℕ) (o : Option (List Entry))
     → Tells (said_of bib t 0 o) (fit_after places 0 (said_of bib t 0 o)) (history_on bib t places o)
 unfolding history_on said_of fit_after
-on-tells bib t n places none = refl
-on-tells bib t n places (some es) =
-    subst (λ (z : List Entry). Tells (some (by_stamp (only (wanted bib t 0) es))) (fit_after places 0 (some (by_stamp (only (wanted bib t 0) es)))) (fitting places z)) (same-list bib t n es)
+on-tells bib t n places None = refl
+on-tells bib t n places (Some es) =
+    subst (λ (z : List Entry). Tells (Some (by_stamp (only (wanted bib t 0) es))) (fit_after places 0 (Some (by_stamp (only (wanted bib t 0) es)))) (fitting places z)) (same-list bib t n es)
     (fitting-tells places (by_stamp (only (wanted bib t 0) es)))
 
 module _ (card : List ℕ) (bib t places : ℕ) where
-  pub told-broken : head_of card ≡ none → history card bib t places ≡ roll 1 []
+  pub told-broken : head_of card ≡ None → history card bib t places ≡ roll 1 []
   unfolding history history_in
   told-broken q = rw q
 
-  module _ (h : Head) (q : head_of card ≡ some h) where
+  module _ (h : Head) (q : head_of card ≡ Some h) where
     pub told-zero : bib ≡ 0 → history card bib t places ≡ roll 2 []
     unfolding history history_in
     told-zero z = rw (q, eq-eqb bib 0 z)
@@ -185,7 +178,7 @@ module _ (card : List ℕ) (bib t places : ℕ) where
     unfolding history history_in
     told-early n lt = rw (q, ne_eqb bib 0 n, lt-ltb t (beginning card) lt)
 
-    pub told_fit : (bib ≡ 0 → ⊥) → beginning card ≤ t → (r : Fit) → r ≡ fit_after places 0 (said h card bib t 0)
+    pub told_fit : (bib ≡ 0 → ⊥) → beginning card ≤ t → (r : Result ℕ Refusal) → r ≡ fit_after places 0 (said h card bib t 0)
         → Tells (said h card bib t 0) r (history card bib t places)
     unfolding history history_in said
     told_fit n le r e = rw (q, ne_eqb bib 0 n, le-ltb t (beginning card) le, e) (on-tells bib t n places (area h card))
@@ -201,14 +194,14 @@ data-narrow n e d = (
   omega (arith, legal-status n e d.1),
 )
 
-pub said-small : (h : Head) (card : List ℕ) (bib t f : ℕ) (l rest : List Entry) → said h card bib t f ≡ some (l ++ rest) → AllSmall l
+pub said-small : (h : Head) (card : List ℕ) (bib t f : ℕ) (l rest : List Entry) → said h card bib t f ≡ Some (l ++ rest) → AllSmall l
 unfolding said area said_of
 said-small h card bib t f l rest q = go (entries h.n card (1 + h.n) (h.n * h.m)) refl q
   where
-    go : (o : Option (List Entry)) → entries h.n card (1 + h.n) (h.n * h.m) ≡ o → said_of bib t f o ≡ some (l ++ rest) → AllSmall l
-    go none e z = absurd (none-some z)
-    go (some es) e z =
+    go : (o : Option (List Entry)) → entries h.n card (1 + h.n) (h.n * h.m) ≡ o → said_of bib t f o ≡ Some (l ++ rest) → AllSmall l
+    go None e z = absurd (none-some z)
+    go (Some es) e z =
         let lawful : All (λ d. legal h.n d ≡ true) es = all_map (Stands h.n card (1 + h.n) (1 + h.n + h.n * h.m)) (λ d. legal h.n d ≡ true)
         (λ d s. (held-inv h.n (sector_at card s.0) d s.3).1) es (entries-stand h.n card (1 + h.n) (h.n * h.m) es e) in
         all_map (λ d. (is_data d ≡ true) × (legal h.n d ≡ true)) Narrow (data-narrow h.n) l
-        (all_both (λ d. is_data d ≡ true) (λ d. legal h.n d ≡ true) l (said-data bib t f (some es) l rest z) (said_all (λ d. legal h.n d ≡ true) bib t f es l rest lawful z))
+        (all_both (λ d. is_data d ≡ true) (λ d. legal h.n d ≡ true) l (said-data bib t f (Some es) l rest z) (said_all (λ d. legal h.n d ≡ true) bib t f es l rest lawful z))

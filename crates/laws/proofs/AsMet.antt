@@ -1,7 +1,7 @@
 -- On any card with a head: when a level of a write has its turn, its bucket is as the walk met it, buckets not yet taken are blank, and head and log are as met.
 use mathlib.Core.Path.{◌∙◌, ◌≡◌, ap, refl, sym, subst}
 use mathlib.Core.Bool.{false, true}
-use mathlib.Core.Option.{some}
+use Rattle.std.specs.Prelude.{Some}
 use Prim.Native.Nat.{◌+◌, ◌-◌, ◌/◌, ◌<◌, ◌≤◌, suc, zero, ℕ}
 use native.Mathlib.Omega.{arith}
 use mathlib.Core.List.{List, [], ◌++◌, ◌∷◌, append_assoc}
@@ -112,7 +112,7 @@ unfolding blanks_of
 blanks-same h a b c ag = blanks-agree a b (base h c) h.m ag
 
 -- a write along the lower part q of a path, on the card that it meets
-module _ (h : Head) (card : List ℕ) (hq : head_of card ≡ some h) (t x : ℕ) (us q : List Visit) (w : walk h card t x ≡ some (us ++ q)) (s : ℕ) (es : List Entry) where
+module _ (h : Head) (card : List ℕ) (hq : head_of card ≡ Some h) (t x : ℕ) (us q : List Visit) (w : walk h card t x ≡ Some (us ++ q)) (s : ℕ) (es : List Entry) where
   abbrev start : Rise
   start = record { hand = es; fresh = top_used h card h.n + 1; card = card }
 
@@ -120,7 +120,7 @@ module _ (h : Head) (card : List ℕ) (hq : head_of card ≡ some h) (t x : ℕ)
   done = climb h s q start
 
   abbrev Reads : Visit → Type 0
-  Reads v = bucket h card v.number ≡ some v.entries
+  Reads v = bucket h card v.number ≡ Some v.entries
 
   size : size_of h ≡ length card
   size = (head-facts card h hq).1
@@ -158,20 +158,20 @@ pub record AsMet (h : Head) (card now : List ℕ) (v : Visit) : Type 0 where
   pub size : size_of h ≡ length now
   pub sectors : (j : ℕ) → base h v.number ≤ j → j < base h v.number + h.m → sector_at now j ≡ sector_at card j
   pub blanks : blanks_of h now v.number ≡ blanks_of h card v.number
-  pub reads : bucket h now v.number ≡ some v.entries
+  pub reads : bucket h now v.number ≡ Some v.entries
 
 -- v is a bucket on the path to x, q those below it: after the levels below, the bucket of v is as the walk found it
-pub as-met : (h : Head) (card : List ℕ) → head_of card ≡ some h → (t x : ℕ) (us : List Visit) (v : Visit) (q : List Visit)
-    → walk h card t x ≡ some (us ++ (v ∷ q))
+pub as-met : (h : Head) (card : List ℕ) → head_of card ≡ Some h → (t x : ℕ) (us : List Visit) (v : Visit) (q : List Visit)
+    → walk h card t x ≡ Some (us ++ (v ∷ q))
     → (s : ℕ) (es : List Entry) → (climb h s q (record { hand = es; fresh = top_used h card h.n + 1; card = card })).fresh ≤ h.n + 1
     → AsMet h card (climb h s q (record { hand = es; fresh = top_used h card h.n + 1; card = card })).card v
 as-met h card hq t x us v q w s es cap =
     let size = (head-facts card h hq).1 in
-    let Reads : Visit → Type 0 = λ z. bucket h card z.number ≡ some z.entries in
+    let Reads : Visit → Type 0 = λ z. bucket h card z.number ≡ Some z.entries in
     let here = (along-right Reads us (v ∷ q) (walk-reads h card t x (us ++ (v ∷ q)) w)).0 in
     let away = (apart-right us (v ∷ q) (walk-once h card t x (us ++ (v ∷ q)) w)).0 in
     let top = used-top h card v.number v.entries size here in
-    let lower = subst (λ p. walk h card t x ≡ some p) (sym (append_assoc us (v ∷ []) q)) w in
+    let lower = subst (λ p. walk h card t x ≡ Some p) (sym (append_assoc us (v ∷ []) q)) w in
     let a = other h card hq t x (us ++ (v ∷ [])) q lower s es v.number (bucket-raw h card v.number v.entries here).0 away (λ b f g e. omega arith) cap in
     let now = (climb h s q (record { hand = es; fresh = top_used h card h.n + 1; card = card })).card in
     record {

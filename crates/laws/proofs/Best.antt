@@ -2,7 +2,7 @@
 use mathlib.Core.Path.{◌≡◌, refl}
 use mathlib.Core.Logic.{⊎_elim}
 use mathlib.Core.Bool.{Bool, true, false}
-use mathlib.Core.Option.{Option, none, some}
+use Rattle.std.specs.Prelude.{Option, None, Some}
 use mathlib.Core.List.{List, [], ◌∷◌, ◌++◌}
 use Rattle.rules.specs.declared.Entry.{Entry}
 use Rattle.rules.specs.Plain.{if}
@@ -15,28 +15,28 @@ pub record Order (q : Entry → Entry → Bool) : Type 0 where
 
 -- of an entry and the best of those behind it
 abbrev pub better : (Entry → Entry → Bool) → Entry → Option Entry → Option Entry
-better q e none = some e
-better q e (some d) = if (q e d) (some d) (some e)
+better q e None = Some e
+better q e (Some d) = if (q e d) (Some d) (Some e)
 
 -- of the best so far and one more entry at the end
 abbrev pub best : (Entry → Entry → Bool) → Option Entry → Entry → Entry
-best q none p = p
-best q (some d) p = if (q d p) p d
+best q None p = p
+best q (Some d) p = if (q d p) p d
 
-some-if : (b : Bool) (p e : Entry) → if b (some p) (some e) ≡ some (if b p e)
+some-if : (b : Bool) (p e : Entry) → if b (Some p) (Some e) ≡ Some (if b p e)
 some-if true p e = refl
 some-if false p e = refl
 
 module _ (q : Entry → Entry → Bool) (order : Order q) where
-  better-best : (e : Entry) (r : Option Entry) (p : Entry) → better q e (some (best q r p)) ≡ some (best q (better q e r) p)
-  better-best e none p = some-if (q e p) p e
-  better-best e (some d) p =
+  better-best : (e : Entry) (r : Option Entry) (p : Entry) → better q e (Some (best q r p)) ≡ Some (best q (better q e r) p)
+  better-best e None p = some-if (q e p) p e
+  better-best e (Some d) p =
       ⊎_elim
       (λ (ed : q e d ≡ true). ⊎_elim (λ (dp : q d p ≡ true). simp (ed, dp, order.taken e d p ed dp)) (λ (dp : q d p ≡ false). simp (ed, dp)) (bool_cases (q d p)))
       (λ (ed : q e d ≡ false). ⊎_elim (λ (dp : q d p ≡ true). simp (ed, dp) (some-if (q e p) p e)) (λ (dp : q d p ≡ false). simp (ed, dp, order.left e d p ed dp)) (bool_cases (q d p)))
       (bool_cases (q e d))
 
-  pub best-snoc : (f : List Entry → Option Entry) → f [] ≡ none → ((e : Entry) (es : List Entry) → f (e ∷ es) ≡ better q e (f es))
-      → (es : List Entry) (p : Entry) → f (es ++ (p ∷ [])) ≡ some (best q (f es) p)
+  pub best-snoc : (f : List Entry → Option Entry) → f [] ≡ None → ((e : Entry) (es : List Entry) → f (e ∷ es) ≡ better q e (f es))
+      → (es : List Entry) (p : Entry) → f (es ++ (p ∷ [])) ≡ Some (best q (f es) p)
   best-snoc f start step [] p = rw (step, start)
   best-snoc f start step (e ∷ es) p = rw (step e (es ++ (p ∷ [])), step e es, best-snoc f start step es p) (better-best e (f es) p)

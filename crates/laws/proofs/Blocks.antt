@@ -2,7 +2,7 @@
 use mathlib.Core.Path.{◌∙◌, ◌≡◌, ap, ap₂, refl, sym}
 use mathlib.Core.Logic.{inl, ⊎_elim}
 use mathlib.Core.Bool.{Bool, false, true}
-use mathlib.Core.Option.{some}
+use Rattle.std.specs.Prelude.{Some}
 use Prim.Native.Nat.{◌*◌, ◌+◌, ◌<◌, ◌≤◌, suc, zero, ℕ}
 use native.Mathlib.Omega.{arith}
 use mathlib.Core.List.{List, [], ◌++◌, ◌∷◌, append-nil}
@@ -73,13 +73,13 @@ fill-other card (i ∷ is) (e ∷ new) j a n =
     ∙ sector-put-other card i j (encode e) (length-encode e) a.0 n.0
 
 pub fill-run : (n : ℕ) (card : List ℕ) (i c : ℕ) (es new : List Entry) → Good n new → 16 * (i + c) ≤ length card
-    → length new ≤ length (blanks card i c) → run n card i c ≡ some es → run n (fill card (blanks card i c) new) i c ≡ some (es ++ new)
+    → length new ≤ length (blanks card i c) → run n card i c ≡ Some es → run n (fill card (blanks card i c) new) i c ≡ Some (es ++ new)
 unfolding run onto fill
-fill-run n card i c es [] good lies fits q = q ∙ ap some (sym (append-nil es))
+fill-run n card i c es [] good lies fits q = q ∙ ap Some (sym (append-nil es))
 fill-run n card i zero es (e ∷ new) good lies fits q = absurd (let z = ap length (blanks-none card i) in omega arith)
 fill-run n card i (suc c) es (e ∷ new) good lies fits q =
     ⊎_elim
-    (λ (b : (decode n (sector_at card i) ≡ Blank) × (es ≡ []) × (run n card (suc i) c ≡ some [])).
+    (λ (b : (decode n (sector_at card i) ≡ Blank) × (es ≡ []) × (run n card (suc i) c ≡ Some [])).
     let z = blanks-yes card i c (blank-zeros n (sector_at card i) b.0) in
     let card1 = put card i (encode e) in
     let len = length-put card i (encode e) (length-encode e) (omega arith) in
@@ -94,7 +94,7 @@ fill-run n card i (suc c) es (e ∷ new) good lies fits q =
     = ap (decode n) (oth ∙ sector-put-same card i (encode e) (length-encode e) (omega arith)) ∙ decode-encode n e good.0.1 in
     let filled : fill card (blanks card i (suc c)) (e ∷ new) ≡ fill card1 (blanks card1 (suc i) c) new = rw (z, sym be) in
     rw b.1 (ap (λ (k : List ℕ). run n k i (suc c)) filled ∙ ap₂ onto hd ih))
-    (λ (b : (x : Entry) × (xs : List Entry) × (decode n (sector_at card i) ≡ Held x) × (es ≡ x ∷ xs) × (run n card (suc i) c ≡ some xs)).
+    (λ (b : (x : Entry) × (xs : List Entry) × (decode n (sector_at card i) ≡ Held x) × (es ≡ x ∷ xs) × (run n card (suc i) c ≡ Some xs)).
     let z = blanks-no card i c (held-zeros n (sector_at card i) b.0 b.2) in
     let ft : suc (length new) ≤ length (blanks card (suc i) c) = rw z at fits in
     let ih = fill-run n card (suc i) c b.1 (e ∷ new) good (omega arith) ft b.4 in
@@ -105,13 +105,13 @@ fill-run n card i (suc c) es (e ∷ new) good lies fits q =
     (onto-inv (decode n (sector_at card i)) (run n card (suc i) c) es q)
 
 -- a run without entries is blank
-pub blank-room : (n : ℕ) (card : List ℕ) (i c : ℕ) → run n card i c ≡ some [] → length (blanks card i c) ≡ c
+pub blank-room : (n : ℕ) (card : List ℕ) (i c : ℕ) → run n card i c ≡ Some [] → length (blanks card i c) ≡ c
 unfolding run
 blank-room n card i zero q = ap length (blanks-none card i)
 blank-room n card i (suc c) q =
     ⊎_elim
-    (λ (b : (decode n (sector_at card i) ≡ Blank) × ([] ≡ []) × (run n card (suc i) c ≡ some [])).
+    (λ (b : (decode n (sector_at card i) ≡ Blank) × ([] ≡ []) × (run n card (suc i) c ≡ Some [])).
     rw (blanks-yes card i c (blank-zeros n (sector_at card i) b.0)) (ap suc (blank-room n card (suc i) c b.2)))
-    (λ (b : (x : Entry) × (xs : List Entry) × (decode n (sector_at card i) ≡ Held x) × ([] ≡ x ∷ xs) × (run n card (suc i) c ≡ some xs)).
+    (λ (b : (x : Entry) × (xs : List Entry) × (decode n (sector_at card i) ≡ Held x) × ([] ≡ x ∷ xs) × (run n card (suc i) c ≡ Some xs)).
     absurd (let y : ◌≡◌ {A = ℕ} 0 (suc (length b.1)) = ap length b.3 in omega arith))
     (onto-inv (decode n (sector_at card i)) (run n card (suc i) c) [] q)

@@ -2,7 +2,7 @@
 use mathlib.Core.Path.{◌∙◌, ◌≡◌, ap, refl, sym}
 use mathlib.Core.Logic.{⊎_elim, inl, inr, ◌⊎◌}
 use mathlib.Core.Bool.{Bool, true}
-use mathlib.Core.Option.{Option, none, some}
+use Rattle.std.specs.Prelude.{Option, None, Some}
 use Prim.Native.Nat.{◌*◌, ◌+◌, ◌-◌, ◌<◌, ◌≤◌, suc, zero, ℕ}
 use native.Mathlib.Omega.{arith}
 use mathlib.Core.List.{List, [], ◌++◌, ◌∷◌}
@@ -30,7 +30,7 @@ every-snoc p (x ∷ es) e h q =
     true-and t.0 (every-snoc p es e t.1 q)
 
 -- what a sound bucket is
-sound-inv : (es gs : List Entry) → sound_bucket es ≡ some gs → es ≡ gs
+sound-inv : (es gs : List Entry) → sound_bucket es ≡ Some gs → es ≡ gs
 unfolding sound_bucket
 sound-inv [] gs eq = cc
 sound-inv (x ∷ es) gs eq = (guard-true (every (joins x) (x ∷ es)) (x ∷ es) gs eq).1
@@ -47,28 +47,28 @@ apart m b c lt lo =
     omega (arith, mul-le-mul_left m k)
 
 -- what is read of a bucket, by its sectors
-pub bucket-raw : (h : Head) (card : List ℕ) (b : ℕ) (es : List Entry) → bucket h card b ≡ some es
-    → (1 ≤ b) × (raw h card b ≡ some es) × (sound_bucket es ≡ some es)
+pub bucket-raw : (h : Head) (card : List ℕ) (b : ℕ) (es : List Entry) → bucket h card b ≡ Some es
+    → (1 ≤ b) × (raw h card b ≡ Some es) × (sound_bucket es ≡ Some es)
 unfolding bucket
 bucket-raw h card zero es q = absurd (none-some q)
 bucket-raw h card (suc b) es q =
     let inv = then-inv (raw h card (suc b)) sound_bucket es q in
     let e = sound-inv inv.0 es inv.2 in
-    (omega arith, inv.1 ∙ ap some e, ap sound_bucket (sym e) ∙ inv.2)
+    (omega arith, inv.1 ∙ ap Some e, ap sound_bucket (sym e) ∙ inv.2)
 
-pub raw-bucket : (h : Head) (card : List ℕ) (b : ℕ) (es : List Entry) → 1 ≤ b → raw h card b ≡ some es → sound_bucket es ≡ some es
-    → bucket h card b ≡ some es
+pub raw-bucket : (h : Head) (card : List ℕ) (b : ℕ) (es : List Entry) → 1 ≤ b → raw h card b ≡ Some es → sound_bucket es ≡ Some es
+    → bucket h card b ≡ Some es
 unfolding bucket
 raw-bucket h card zero es lo r s = absurd (omega arith)
 raw-bucket h card (suc b) es lo r s = rw r s
 
 -- past the card's end all is blank
-pub run_past : (n : ℕ) (card : List ℕ) (i c : ℕ) → length card ≤ 16 * i → run n card i c ≡ some []
+pub run_past : (n : ℕ) (card : List ℕ) (i c : ℕ) → length card ≤ 16 * i → run n card i c ≡ Some []
 unfolding run sector_at decode zeros onto
 run_past n card i zero le = refl
 run_past n card i (suc c) le = rw (drop_of_length-le card le, run_past n card (suc i) c (omega arith))
 
-pub bucket-within : (h : Head) (card : List ℕ) (b : ℕ) (es : List Entry) → size_of h ≡ length card → bucket h card b ≡ some es → b ≤ h.n
+pub bucket-within : (h : Head) (card : List ℕ) (b : ℕ) (es : List Entry) → size_of h ≡ length card → bucket h card b ≡ Some es → b ≤ h.n
 unfolding size_of base sound_bucket
 bucket-within h card b es size q =
     ⊎_elim (λ le. le)
@@ -80,19 +80,19 @@ bucket-within h card b es size q =
     (le-or-lt b h.n)
 
 -- a run is no longer than its sectors
-pub run_length : (n : ℕ) (card : List ℕ) (i c : ℕ) (es : List Entry) → run n card i c ≡ some es → length es ≤ c
+pub run_length : (n : ℕ) (card : List ℕ) (i c : ℕ) (es : List Entry) → run n card i c ≡ Some es → length es ≤ c
 unfolding run
 run_length n card i zero [] q = omega arith
-run_length n card i zero (e ∷ es) q = absurd (none-some (let z : none ≡ some e = cc in z))
+run_length n card i zero (e ∷ es) q = absurd (none-some (let z : None ≡ Some e = cc in z))
 run_length n card i (suc c) es q =
     ⊎_elim
-    (λ (v : (decode n (sector_at card i) ≡ Blank) × (es ≡ []) × (run n card (suc i) c ≡ some [])). let z = ap length v.1 in omega arith)
-    (λ (v : (x : Entry) × (xs : List Entry) × (decode n (sector_at card i) ≡ Held x) × (es ≡ x ∷ xs) × (run n card (suc i) c ≡ some xs)).
+    (λ (v : (decode n (sector_at card i) ≡ Blank) × (es ≡ []) × (run n card (suc i) c ≡ Some [])). let z = ap length v.1 in omega arith)
+    (λ (v : (x : Entry) × (xs : List Entry) × (decode n (sector_at card i) ≡ Held x) × (es ≡ x ∷ xs) × (run n card (suc i) c ≡ Some xs)).
     let ih = run_length n card (suc i) c v.1 v.4 in
     let z = ap length v.3 in omega arith)
     (onto-inv (decode n (sector_at card i)) (run n card (suc i) c) es q)
 
-pub bucket-length : (h : Head) (card : List ℕ) (b : ℕ) (es : List Entry) → bucket h card b ≡ some es → length es ≤ h.m
+pub bucket-length : (h : Head) (card : List ℕ) (b : ℕ) (es : List Entry) → bucket h card b ≡ Some es → length es ≤ h.m
 bucket-length h card b es q = run_length h.n card (base h b) h.m es (bucket-raw h card b es q).1
 
 -- the k sectors from i lie apart from bucket b

@@ -2,7 +2,7 @@
 use mathlib.Core.Path.{◌∙◌, ◌≡◌, ap, refl, subst, sym}
 use mathlib.Core.Logic.{⊎_elim}
 use mathlib.Core.Bool.{Bool, false, true}
-use mathlib.Core.Option.{none, some}
+use Rattle.std.specs.Prelude.{None, Some}
 use Prim.Native.Nat.{◌*◌, ◌+◌, ◌<◌, suc, zero, ℕ}
 use native.Mathlib.Omega.{arith}
 use mathlib.Core.List.{List, [], ◌++◌, ◌∷◌}
@@ -115,14 +115,14 @@ held-inv n s e q = go (zeros s) q
     go true z = (cc, cc)
     go false z = go2 (zeros (take 2 (drop 2 s)) & legal n (fields s)) refl z
 
-pub run-good : (n : ℕ) (card : List ℕ) → Bytes card → (i c : ℕ) (es : List Entry) → run n card i c ≡ some es → Good n es
+pub run-good : (n : ℕ) (card : List ℕ) → Bytes card → (i c : ℕ) (es : List Entry) → run n card i c ≡ Some es → Good n es
 unfolding run sector_at
 run-good n card b i zero [] q = tt
-run-good n card b i zero (e ∷ es) q = absurd (none-some (let z : none ≡ some e = cc in z))
+run-good n card b i zero (e ∷ es) q = absurd (none-some (let z : None ≡ Some e = cc in z))
 run-good n card b i (suc c) es q =
     ⊎_elim
-    (λ (v : (decode n (sector_at card i) ≡ Blank) × (es ≡ []) × (run n card (suc i) c ≡ some [])). subst (Good n) (sym v.1) tt)
-    (λ (v : (x : Entry) × (xs : List Entry) × (decode n (sector_at card i) ≡ Held x) × (es ≡ x ∷ xs) × (run n card (suc i) c ≡ some xs)).
+    (λ (v : (decode n (sector_at card i) ≡ Blank) × (es ≡ []) × (run n card (suc i) c ≡ Some [])). subst (Good n) (sym v.1) tt)
+    (λ (v : (x : Entry) × (xs : List Entry) × (decode n (sector_at card i) ≡ Held x) × (es ≡ x ∷ xs) × (run n card (suc i) c ≡ Some xs)).
     let hi = held-inv n (sector_at card i) v.0 v.2 in
     subst (Good n) (sym v.3) (
       (subst Fits hi.0 (fields_fit (sector_at card i) (bytes-sector card i b)), hi.1),

@@ -2,7 +2,7 @@
 use mathlib.Core.Path.{◌∙◌, ◌≡◌, ap, ap₂, refl, sym, subst}
 use mathlib.Core.Logic.{◌⊎◌, inl, inr, ⊎_elim}
 use mathlib.Core.Bool.{Bool, false, not, true}
-use mathlib.Core.Option.{some}
+use Rattle.std.specs.Prelude.{Some}
 use Prim.Native.Nat.{◌*◌, ◌+◌, ◌-◌, ◌/◌, ◌<◌, ◌≤◌, suc, zero, ℕ}
 use native.Mathlib.Omega.{arith}
 use mathlib.Core.List.{List, [], ◌++◌, ◌∷◌, append_assoc}
@@ -46,10 +46,10 @@ unwritten-agree a b i (suc c) h =
     ap₂ (λ (s : List ℕ) (r : Bool). zeros s & r) (h i (omega arith) (omega arith)) (unwritten-agree a b (suc i) c (λ j p q. h j (omega arith) (omega arith)))
 
 -- a bucket in which an entry is read is written
-cons-none : (x : Entry) (xs : List Entry) → some [] ≡ some (x ∷ xs) → ⊥
+cons-none : (x : Entry) (xs : List Entry) → Some [] ≡ Some (x ∷ xs) → ⊥
 cons-none x xs q = let z : ◌≡◌ {A = ℕ} 0 1 = cc in omega arith
 
-raw-written : (h : Head) (card : List ℕ) (c : ℕ) (es : List Entry) → raw h card c ≡ some es → 1 ≤ length es → unwritten card (base h c) h.m ≡ false
+raw-written : (h : Head) (card : List ℕ) (c : ℕ) (es : List Entry) → raw h card c ≡ Some es → 1 ≤ length es → unwritten card (base h c) h.m ≡ false
 raw-written h card c [] q l = absurd (omega arith)
 raw-written h card c (x ∷ xs) q l =
     ⊎_elim
@@ -121,7 +121,7 @@ module _ (h : Head) (lim : Lim h) (s : ℕ) (s32 : s < 4294967296) where
 
   -- an entry with the call's stamp can be read in a bucket
   abbrev Has : List ℕ → Type 0
-  Has card = (b : ℕ) × (1 ≤ b) × (b ≤ h.n) × ((cs : List Entry) × (raw h card b ≡ some cs) × Marked s cs)
+  Has card = (b : ℕ) × (1 ≤ b) × (b ≤ h.n) × ((cs : List Entry) × (raw h card b ≡ Some cs) × Marked s cs)
 
   abbrev Next : Rise → Type 0
   Next r = Between r × Has r.card
@@ -135,7 +135,7 @@ module _ (h : Head) (lim : Lim h) (s : ℕ) (s32 : s < 4294967296) where
     pub record Took (f : ℕ) (ks : List Entry) : Type 0 where
       pub long : size_of h ≡ length (into h f ks card)
       pub used : top_used h (into h f ks card) h.n ≡ f
-      pub here : raw h (into h f ks card) f ≡ some ks
+      pub here : raw h (into h f ks card) f ≡ Some ks
 
     take-fresh : (f : ℕ) → top_used h card h.n + 1 ≡ f → f ≤ h.n → (ks : List Entry) → Good h.n ks → 1 ≤ length ks → length ks ≤ h.m → Took f ks
     unfolding blanks_of
@@ -151,7 +151,7 @@ module _ (h : Head) (lim : Lim h) (s : ℕ) (s32 : s < 4294967296) where
         }
 
     -- a bucket in use takes more
-    used-old : (b : ℕ) → 1 ≤ b → b ≤ h.n → (es new : List Entry) → raw h card b ≡ some es → 1 ≤ length es → raw h (into h b new card) b ≡ some (es ++ new)
+    used-old : (b : ℕ) → 1 ≤ b → b ≤ h.n → (es new : List Entry) → raw h card b ≡ Some es → 1 ≤ length es → raw h (into h b new card) b ≡ Some (es ++ new)
         → top_used h (into h b new card) h.n ≡ top_used h card h.n
     used-old b lo hi es new q l r =
         used-agree h (into h b new card) card h.n
@@ -194,7 +194,7 @@ module _ (h : Head) (lim : Lim h) (s : ℕ) (s32 : s < 4294967296) where
       let t = take-fresh r.card bt.size f u (omega arith) ls gl l1 lm in
       let card1 = into h f ls r.card in
       let w = take-fresh card1 t.long (f + 1) (ap (λ (k : ℕ). k + 1) t.used) (omega arith) bs gb b1 bm in
-      let old : raw h (into h (f + 1) bs card1) f ≡ some ls = block-else h card1 t.long (f + 1) (omega arith) (omega arith) bs f (omega arith) (λ z. omega arith) ∙ t.here in (
+      let old : raw h (into h (f + 1) bs card1) f ≡ Some ls = block-else h card1 t.long (f + 1) (omega arith) (omega arith) bs f (omega arith) (λ z. omega arith) ∙ t.here in (
         record {
           size = w.long;
           bytes = into-bytes (f + 1) bs card1 (into-bytes f ls r.card bt.bytes gl) gb;
@@ -233,13 +233,13 @@ module _ (h : Head) (lim : Lim h) (s : ℕ) (s32 : s < 4294967296) where
       let t4 = lim.ti4 in
       elim (is_index x) as (λ i. (2 ≤ if i h.ti h.td) × (if i h.ti h.td ≤ h.m)) [ true ↦ (omega arith, lim.tim) | false ↦ (lim.td2, lim.tdm) ]
 
-  sound-some : (es : List Entry) → sound_bucket es ≡ some es → 1 ≤ length es
+  sound-some : (es : List Entry) → sound_bucket es ≡ Some es → 1 ≤ length es
   unfolding sound_bucket
   sound-some [] q = absurd (none-some q)
   sound-some (e ∷ es) q = omega arith
 
   -- one level, its bucket being as the walk met it
-  place-next : (v : Visit) (r : Rise) → Between r → 1 ≤ length r.hand → bucket h r.card v.number ≡ some v.entries → Good h.n v.entries
+  place-next : (v : Visit) (r : Rise) → Between r → 1 ≤ length r.hand → bucket h r.card v.number ≡ Some v.entries → Good h.n v.entries
       → (place h s v r).fresh ≤ h.n + 1 → Next (place h s v r)
   unfolding place
   place-next v r bt some-hand reads good =
@@ -279,7 +279,7 @@ module _ (h : Head) (lim : Lim h) (s : ℕ) (s32 : s < 4294967296) where
       first-marked es [] a lo = absurd (omega arith)
       first-marked es (d ∷ hand) a lo = (d, mem-right d es (d ∷ hand) (inl refl), a.0)
 
-  place_if-next : (v : Visit) (es : List Entry) (r : Rise) → r.hand ≡ es → Between r → (es ≡ [] → Has r.card) → bucket h r.card v.number ≡ some v.entries → Good h.n v.entries
+  place_if-next : (v : Visit) (es : List Entry) (r : Rise) → r.hand ≡ es → Between r → (es ≡ [] → Has r.card) → bucket h r.card v.number ≡ Some v.entries → Good h.n v.entries
       → (place_if h s v es r).fresh ≤ h.n + 1 → Next (place_if h s v es r)
   unfolding place_if
   place_if-next v [] r q bt has reads good cap = (bt, has refl)
@@ -328,7 +328,7 @@ module _ (h : Head) (lim : Lim h) (s : ℕ) (s32 : s < 4294967296) where
       (one-next (e ∷ d ∷ es) r nx.0 (all_map Own (Fine h.n) (λ x o. o.0) (e ∷ d ∷ es) own) (e, inl refl, own.0.1) (omega arith) cap)
 
 -- a write of e on any card with a head whose elements are bytes
-module _ (h : Head) (card : List ℕ) (hq : head_of card ≡ some h) (by : Bytes card) (e : Entry) (fine : Fine h.n e) (x : ℕ) where
+module _ (h : Head) (card : List ℕ) (hq : head_of card ≡ Some h) (by : Bytes card) (e : Entry) (fine : Fine h.n e) (x : ℕ) where
   abbrev start : Rise
   start = record { hand = e ∷ []; fresh = top_used h card h.n + 1; card = card }
 
@@ -342,16 +342,16 @@ module _ (h : Head) (card : List ℕ) (hq : head_of card ≡ some h) (by : Bytes
   unfolding climb
   hand-there q = let z = ap length q in omega arith
 
-  pub climb-next : (us p : List Visit) → walk h card latest x ≡ some (us ++ p) → (climb h s p start).fresh ≤ h.n + 1
+  pub climb-next : (us p : List Visit) → walk h card latest x ≡ Some (us ++ p) → (climb h s p start).fresh ≤ h.n + 1
       → Between h lim s fine.0.stamp (climb h s p start) × ((p ≡ []) ⊎ Has h lim s fine.0.stamp (climb h s p start).card)
   unfolding climb
   climb-next us [] w cap = (record { size = (head-facts card h hq).1; bytes = by; used = refl; hands = ((fine, refl), tt); few = omega arith }, inl refl)
   climb-next us (v ∷ q) w cap =
       let below = climb h s q start in
       let pf = place_if-fresh h s v below.hand below in
-      let ih = climb-next (us ++ (v ∷ [])) q (subst (λ (p : List Visit). walk h card latest x ≡ some p) (sym (append_assoc us (v ∷ []) q)) w) (omega arith) in
+      let ih = climb-next (us ++ (v ∷ [])) q (subst (λ (p : List Visit). walk h card latest x ≡ Some p) (sym (append_assoc us (v ∷ []) q)) w) (omega arith) in
       let met = as-met h card hq latest x us v q w s (e ∷ []) (omega arith) in
-      let read = (along-right (λ z. bucket h card z.number ≡ some z.entries) us (v ∷ q) (walk-reads h card latest x (us ++ (v ∷ q)) w)).0 in
+      let read = (along-right (λ z. bucket h card z.number ≡ Some z.entries) us (v ∷ q) (walk-reads h card latest x (us ++ (v ∷ q)) w)).0 in
       let good = run-good h.n card by (base h v.number) h.m v.entries (bucket-raw h card v.number v.entries read).1 in
       let nx = place_if-next h lim s fine.0.stamp v below.hand below refl ih.0
       (λ none_left. ⊎_elim
@@ -364,7 +364,7 @@ module _ (h : Head) (card : List ℕ) (hq : head_of card ≡ some h) (by : Bytes
       first-hand : (q : List Visit) → q ≡ [] → (climb h s q start).hand ≡ [] → ⊥
       first-hand q z y = hand-there (subst (λ (p : List Visit). (climb h s p start).hand ≡ []) z y)
 
-  pub planned-next : (p : List Visit) → walk h card latest x ≡ some p → (new : List ℕ) → plan_on h card e p ≡ accept new
+  pub planned-next : (p : List Visit) → walk h card latest x ≡ Some p → (new : List ℕ) → plan_on h card e p ≡ accept new
       → (top_used h new h.n + 1 ≡ fresh_after h card e p) × Has h lim s fine.0.stamp new × Bytes new
   unfolding plan_on finish fresh_after
   planned-next p w new q =
@@ -377,11 +377,11 @@ module _ (h : Head) (card : List ℕ) (hq : head_of card ≡ some h) (by : Bytes
       let nx = rooted-next h lim s fine.0.stamp r.hand r refl c.0.hands c.0.few (c.0, has) cap in
       subst (λ (d : List ℕ). (top_used h d h.n + 1 ≡ (rooted h s r.hand r).fresh) × Has h lim s fine.0.stamp d × Bytes d) ci.2 (nx.0.used, nx.1, nx.0.bytes)
     where
-      no-path : p ≡ [] → walk h card latest x ≡ some p → ⊥
-      no-path z w = walk-some h card latest x (w ∙ ap some z)
+      no-path : p ≡ [] → walk h card latest x ≡ Some p → ⊥
+      no-path z w = walk-some h card latest x (w ∙ ap Some z)
 
 -- the largest stamp is the entry's
-pub stamp-after : (h : Head) (card : List ℕ) → head_of card ≡ some h → Bytes card → (e : Entry) → Asks e → (new : List ℕ) → plan card e ≡ accept new → stamp_on h new ≡ e.stamp
+pub stamp-after : (h : Head) (card : List ℕ) → head_of card ≡ Some h → Bytes card → (e : Entry) → Asks e → (new : List ℕ) → plan card e ≡ accept new → stamp_on h new ≡ e.stamp
 unfolding stamp_on base
 stamp-after h card hq by e asks new q =
     let pw = plan-walk h card e new hq q in
@@ -399,7 +399,7 @@ stamp-after h card hq by e asks new q =
     omega arith
 
 -- its elements are bytes again
-pub bytes_after : (h : Head) (card : List ℕ) → head_of card ≡ some h → Bytes card → (e : Entry) → Asks e → (new : List ℕ) → plan card e ≡ accept new → Bytes new
+pub bytes_after : (h : Head) (card : List ℕ) → head_of card ≡ Some h → Bytes card → (e : Entry) → Asks e → (new : List ℕ) → plan card e ≡ accept new → Bytes new
 bytes_after h card hq by e asks new q =
     let pw = plan-walk h card e new hq q in
     let inv = plan-inv h card e new pw.0 hq pw.1 q in
@@ -407,7 +407,7 @@ bytes_after h card hq by e asks new q =
     (planned-next h card hq by e (asks-fine h.n e asks inv.0 (omega arith) inv.3) e.key pw.0 pw.1 new inv.2).2
 
 -- the first sector stays, and with it the head and the beginning
-module _ (h : Head) (card : List ℕ) (hq : head_of card ≡ some h) (by : Bytes card) (e : Entry) (asks : Asks e) (new : List ℕ) (q : plan card e ≡ accept new) where
+module _ (h : Head) (card : List ℕ) (hq : head_of card ≡ Some h) (by : Bytes card) (e : Entry) (asks : Asks e) (new : List ℕ) (q : plan card e ≡ accept new) where
   first-stays : sector_at new 0 ≡ sector_at card 0
   first-stays =
       let puts = call-puts h card hq by e asks new q in
@@ -416,7 +416,7 @@ module _ (h : Head) (card : List ℕ) (hq : head_of card ≡ some h) (by : Bytes
       (λ (x : Changed h (λ d. d.stamp ≤ e.stamp) card new 0). absurd (head-written card h hq x.was))
       (puts-sector h (λ d. d.stamp ≤ e.stamp) card puts.0 new (head-facts card h hq).1 puts.1 0)
 
-  pub head-after : head_of new ≡ some h
+  pub head-after : head_of new ≡ Some h
   head-after =
       let size = (head-facts card h hq).1 in
       let size2 = chain-size h (λ d. d.stamp ≤ e.stamp) card new size (call-puts h card hq by e asks new q) in

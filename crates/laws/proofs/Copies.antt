@@ -2,7 +2,7 @@
 use mathlib.Core.Path.{◌∙◌, ◌≡◌, ap, refl, sym}
 use mathlib.Core.Logic.{⊎_elim}
 use mathlib.Core.Bool.{Bool, false, true}
-use mathlib.Core.Option.{Option, none, some}
+use Rattle.std.specs.Prelude.{Option, None, Some}
 use Prim.Native.Nat.{◌<◌, ℕ}
 use native.Mathlib.Omega.{arith}
 use mathlib.Core.List.{List, [], ◌∷◌}
@@ -27,8 +27,8 @@ follow-cons x e es =
     [ true ↦ refl | false ↦ refl ]
 
 abbrev pub cstep : Bool → Entry → Option Entry → Option Entry
-cstep true e none = some e
-cstep true e (some c) = some c
+cstep true e None = Some e
+cstep true e (Some c) = Some c
 cstep false e r = r
 
 last_cons : (e : Entry) (l : List Entry) → last_of (e ∷ l) ≡ cstep true e (last_of l)
@@ -38,8 +38,8 @@ last_cons e (d ∷ []) = refl
 last_cons e (d ∷ c ∷ l) = last_cons d (c ∷ l) ∙ sym (ap (cstep true e) (last_cons d (c ∷ l)) ∙ absorb (last_of (c ∷ l)))
   where
     absorb : (r : Option Entry) → cstep true e (cstep true d r) ≡ cstep true d r
-    absorb none = refl
-    absorb (some z) = refl
+    absorb None = refl
+    absorb (Some z) = refl
 
 pub copy-cons : (x : ℕ) (e : Entry) (es : List Entry) → copy_of x (e ∷ es) ≡ cstep (eqb e.key x) e (copy_of x es)
 unfolding copy_of only
@@ -72,8 +72,8 @@ says-cons e {ls} {bs} p =
 -- two entries of two keys change places
 larger-swap : (e d : Entry) (r : Option Entry) → (e.key < d.key) → larger e (larger d r) ≡ larger d (larger e r)
 unfolding larger
-larger-swap e d none lt = simp (le-leb e.key d.key (omega arith), lt-leb d.key e.key lt)
-larger-swap e d (some c) lt =
+larger-swap e d None lt = simp (le-leb e.key d.key (omega arith), lt-leb d.key e.key lt)
+larger-swap e d (Some c) lt =
     ⊎_elim
     (λ dc. simp (le-leb d.key c.key dc, le-leb e.key c.key (omega arith)))
     (λ cd. ⊎_elim
@@ -119,8 +119,8 @@ says-sym p = record { follows = λ x. sym (p.follows x); copies = λ x. sym (p.c
 -- an earlier copy of a key says nothing
 larger-absorb : (e d : Entry) (r : Option Entry) → e.key ≡ d.key → larger e (larger d r) ≡ larger d r
 unfolding larger
-larger-absorb e d none q = simp (le-leb e.key d.key (omega arith))
-larger-absorb e d (some c) q =
+larger-absorb e d None q = simp (le-leb e.key d.key (omega arith))
+larger-absorb e d (Some c) q =
     ⊎_elim
     (λ dc. simp (le-leb d.key c.key dc, le-leb e.key c.key (omega arith)))
     (λ cd. simp (lt-leb d.key c.key cd, le-leb e.key d.key (omega arith)))
@@ -131,8 +131,8 @@ fstep-absorb true e d r q = larger-absorb e d r q
 fstep-absorb false e d r q = refl
 
 cstep-absorb : (b : Bool) (e d : Entry) (r : Option Entry) → cstep b e (cstep b d r) ≡ cstep b d r
-cstep-absorb true e d none = refl
-cstep-absorb true e d (some c) = refl
+cstep-absorb true e d None = refl
+cstep-absorb true e d (Some c) = refl
 cstep-absorb false e d r = refl
 
 cut-absorb : (b : Bool) (k u : ℕ) → cut b k (cut b k u) ≡ cut b k u

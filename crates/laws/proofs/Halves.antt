@@ -2,7 +2,7 @@
 use mathlib.Core.Path.{◌∙◌, ◌≡◌, ap, refl, sym}
 use mathlib.Core.Logic.{⊎_elim}
 use mathlib.Core.Bool.{Bool, false, not, true}
-use mathlib.Core.Option.{Option, none, some}
+use Rattle.std.specs.Prelude.{Option, None, Some}
 use Prim.Native.Nat.{◌<◌, ◌≤◌, suc, ℕ}
 use native.Mathlib.Omega.{arith}
 use mathlib.Core.List.{List, [], ◌++◌, ◌∷◌, append-nil}
@@ -76,7 +76,7 @@ unfolding only
 only-every q [] a = refl
 only-every q (e ∷ es) a = rw a.0 (ap {B = List Entry} (λ r. e ∷ r) (only-every q es a.1))
 
-copy-none : (x : ℕ) (es : List Entry) → All (λ e. e.key ≡ x → ⊥) es → copy_of x es ≡ none
+copy-none : (x : ℕ) (es : List Entry) → All (λ e. e.key ≡ x → ⊥) es → copy_of x es ≡ None
 unfolding copy_of last_of
 copy-none x es a = rw (only_none (λ e. eqb e.key x) es (all_map (λ e. e.key ≡ x → ⊥) (λ e. eqb e.key x ≡ false) (λ e n. ne_eqb e.key x n) es a))
 
@@ -98,12 +98,12 @@ follow-low x ls bs a =
     rw (only-append (λ e. leb e.key x) ls bs, only_none (λ e. leb e.key x) bs (all_map (λ e. x < e.key) (λ e. leb e.key x ≡ false) (λ e n. lt-leb e.key x n) bs a))
     (ap largest (append-nil (only (λ e. leb e.key x) ls)))
 
-pub follow-high : (x : ℕ) (ls bs : List Entry) (d : Entry) → follow x bs ≡ some d → All (λ e. e.key < d.key) ls → follow x (ls ++ bs) ≡ some d
+pub follow-high : (x : ℕ) (ls bs : List Entry) (d : Entry) → follow x bs ≡ Some d → All (λ e. e.key < d.key) ls → follow x (ls ++ bs) ≡ Some d
 unfolding larger
 follow-high x [] bs d q a = q
 follow-high x (e ∷ ls) bs d q a =
     follow-cons x e (ls ++ bs) ∙ ap (fstep (leb e.key x) e) (follow-high x ls bs d q a.1)
-    ∙ elim (leb e.key x) as (λ b. fstep b e (some d) ≡ some d) [ true ↦ rw (le-leb e.key d.key (let k = a.0 in omega arith)) | false ↦ refl ]
+    ∙ elim (leb e.key x) as (λ b. fstep b e (Some d) ≡ Some d) [ true ↦ rw (le-leb e.key d.key (let k = a.0 in omega arith)) | false ↦ refl ]
 
 upper-ge : (x k : ℕ) (es : List Entry) (hi : ℕ) → k ≤ hi → All (λ e. k ≤ e.key) es → k ≤ upper x es hi
 unfolding upper
@@ -130,12 +130,12 @@ pub upper-high : (x : ℕ) (ls bs : List Entry) (hi : ℕ) → All (λ e. e.key 
 upper-high x ls bs hi a = upper-append x ls bs hi ∙ upper-below x ls (upper x bs hi) a
 
 -- a first entry that is not above x: something is followed
-pub follow-some : (x : ℕ) (e : Entry) (es : List Entry) → e.key ≤ x → (d : Entry) × (follow x (e ∷ es) ≡ some d)
+pub follow-some : (x : ℕ) (e : Entry) (es : List Entry) → e.key ≤ x → (d : Entry) × (follow x (e ∷ es) ≡ Some d)
 follow-some x e es le = go (follow x (e ∷ es)) refl
   where
-    go : (r : Option Entry) → follow x (e ∷ es) ≡ r → (d : Entry) × (follow x (e ∷ es) ≡ some d)
-    go none q = absurd (larger-some e (follow x es) (sym (follow-cons x e es ∙ rw (le-leb e.key x le) refl) ∙ q))
-    go (some d) q = (d, q)
+    go : (r : Option Entry) → follow x (e ∷ es) ≡ r → (d : Entry) × (follow x (e ∷ es) ≡ Some d)
+    go None q = absurd (larger-some e (follow x es) (sym (follow-cons x e es ∙ rw (le-leb e.key x le) refl) ∙ q))
+    go (Some d) q = (d, q)
 
 -- of each key one copy is left: to leave out what does not stand changes nothing
 pub standing-only : (q : Entry → Bool) (x : ℕ) (es : List Entry) → Sorted es → All (λ e. q e ≡ false → is_post e ≡ false) es
@@ -148,10 +148,10 @@ standing-only q x (e ∷ es) s a =
     let later = all_map (λ d. e.key < d.key) (λ d. d.key ≡ x → ⊥) (λ d l z. omega arith) es s.0 in
     let n1 = copy-none x es later in
     let n2 = copy-none x (only q es) (only-all (λ d. d.key ≡ x → ⊥) q es later) in
-    let r : copy_of x (e ∷ es) ≡ some e = copy-cons x e es ∙ rw (eq-eqb e.key x k, n1) in
-    let r3 : copy_of x (e ∷ only q es) ≡ some e = copy-cons x e (only q es) ∙ rw (eq-eqb e.key x k, n2) in
-    let go : (b : Bool) → q e ≡ b → standing (copy_of x (keep_if b e (only q es))) ≡ standing (some e)
-    = λ b. elim b as (λ b. q e ≡ b → standing (copy_of x (keep_if b e (only q es))) ≡ standing (some e)) [
+    let r : copy_of x (e ∷ es) ≡ Some e = copy-cons x e es ∙ rw (eq-eqb e.key x k, n1) in
+    let r3 : copy_of x (e ∷ only q es) ≡ Some e = copy-cons x e (only q es) ∙ rw (eq-eqb e.key x k, n2) in
+    let go : (b : Bool) → q e ≡ b → standing (copy_of x (keep_if b e (only q es))) ≡ standing (Some e)
+    = λ b. elim b as (λ b. q e ≡ b → standing (copy_of x (keep_if b e (only q es))) ≡ standing (Some e)) [
       | true ↦ λ t. ap standing r3
       | false ↦ λ t. ap standing n2 ∙ sym (rw (a.0 t))
     ] in

@@ -1,7 +1,7 @@
 -- What a head that is read says of its card: the limits and the length; where buckets and log lie on such a card.
 use mathlib.Core.Path.{◌≡◌, sym, subst, ap₂, refl}
 use mathlib.Core.Bool.{true, false}
-use mathlib.Core.Option.{some}
+use Rattle.std.specs.Prelude.{Some}
 use mathlib.Core.List.{List}
 use Prim.Native.Nat.{ℕ, suc, ◌+◌, ◌*◌, ◌-◌, ◌≤◌}
 use native.Mathlib.Nat.{mul-le-mul, mul-le-mul_left, mul-add, mul-suc, mul_comm, mul-zero}
@@ -47,7 +47,7 @@ limits-hold h e =
     let ti = within-true 4 h.ti h.m c.1 in
     record { m4 = m.0; m32 = m.1; n2 = n.0; n4096 = n.1; td2 = td.0; tdm = td.1; ti4 = ti.0; tim = ti.1 }
 
-pub head-facts : (card : List ℕ) (h : Head) → head_of card ≡ some h → Lim h × (size_of h ≡ length card)
+pub head-facts : (card : List ℕ) (h : Head) → head_of card ≡ Some h → Lim h × (size_of h ≡ length card)
 unfolding head_of head_in
 head-facts card h q =
     let s = sector_at card 0 in
@@ -62,7 +62,7 @@ head-facts card h q =
     subst (λ (x : Head). Lim x × (size_of x ≡ length card)) g.1 (limits-hold f d.0, sym (eqb-true (length card) (size_of f) d.1))
 
 -- its first sector is no blank
-pub head-written : (card : List ℕ) (h : Head) → head_of card ≡ some h → zeros (sector_at card 0) ≡ true → ⊥
+pub head-written : (card : List ℕ) (h : Head) → head_of card ≡ Some h → zeros (sector_at card 0) ≡ true → ⊥
 unfolding head_of head_in
 head-written card h q z =
     let f = sector_at card 0 in
@@ -89,7 +89,7 @@ pub log-fits : (h : Head) (card : List ℕ) → size_of h ≡ length card → 16
 unfolding size_of
 log-fits h card long = let more : h.n * (h.m + 1) ≡ h.n * h.m + h.n * 1 = mul-add h.n h.m 1 in omega arith
 
-pub head-fits : (card : List ℕ) (h : Head) → head_of card ≡ some h → 16 ≤ length card
+pub head-fits : (card : List ℕ) (h : Head) → head_of card ≡ Some h → 16 ≤ length card
 head-fits card h q = let all = log-fits h card (head-facts card h q).1 in omega arith
 
 -- the head is read from sector 0 and the length alone
@@ -98,7 +98,7 @@ unfolding head_of
 head-same card card' s l = ap₂ head_in s l
 
 -- the head's bytes are read back, and the beginning
-pub head_read : (h : Head) (begin len : ℕ) → limits h ≡ true → len ≡ size_of h → head_in (head_bytes h begin) len ≡ some h
+pub head_read : (h : Head) (begin len : ℕ) → limits h ≡ true → len ≡ size_of h → head_in (head_bytes h begin) len ≡ Some h
 unfolding head_in head_bytes head_fields word le4 zeros
 head_read h begin len l e =
     let f : head_fields (head_bytes h begin) ≡ h = λ i. record { m = h.m; td = h.td; ti = h.ti; n = digits4 h.n i } in

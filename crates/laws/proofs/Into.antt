@@ -2,7 +2,7 @@
 use mathlib.Core.Path.{◌∙◌, ◌≡◌, ap, refl, sym}
 use mathlib.Core.Logic.{◌⊎◌, inl, inr, ⊎_elim}
 use mathlib.Core.Bool.{false, true}
-use mathlib.Core.Option.{some}
+use Rattle.std.specs.Prelude.{Some}
 use Prim.Native.Nat.{◌+◌, ◌<◌, ◌≤◌, suc, zero, ℕ}
 use native.Mathlib.Omega.{arith}
 use mathlib.Core.List.{List, ◌++◌}
@@ -38,8 +38,8 @@ module _ (h : Head) (card : List ℕ) (size : size_of h ≡ length card) (b : �
   unfolding into
   block_size = size ∙ sym (length-fill card (blanks_of h card b) new here-lies)
 
-  pub block-raw : (es : List Entry) → Good h.n new → length new ≤ length (blanks_of h card b) → raw h card b ≡ some es
-      → raw h (into h b new card) b ≡ some (es ++ new)
+  pub block-raw : (es : List Entry) → Good h.n new → length new ≤ length (blanks_of h card b) → raw h card b ≡ Some es
+      → raw h (into h b new card) b ≡ Some (es ++ new)
   unfolding into blanks_of size_of base
   block-raw es good fits eq = fill-run h.n card (base h b) h.m es new good (omega (arith, bucket-in h.m h.n b lo hi)) fits eq
 
@@ -62,9 +62,9 @@ module _ (h : Head) (card : List ℕ) (size : size_of h ≡ length card) (b : �
   unfolding blanks_of
   block-blanks c lc ne = blanks-agree (into h b new card) card (base h c) h.m (block-agree (base h c) h.m (buckets-clear h c b lc lo ne))
 
-  pub block-whole : (es : List Entry) → Good h.n new → length new ≤ length (blanks_of h card b) → raw h card b ≡ some es
-      → ((c : ℕ) → 1 ≤ c → (cs : List Entry) × (raw h card c ≡ some cs)) → (c : ℕ) → 1 ≤ c
-      → (cs : List Entry) × (raw h (into h b new card) c ≡ some cs)
+  pub block-whole : (es : List Entry) → Good h.n new → length new ≤ length (blanks_of h card b) → raw h card b ≡ Some es
+      → ((c : ℕ) → 1 ≤ c → (cs : List Entry) × (raw h card c ≡ Some cs)) → (c : ℕ) → 1 ≤ c
+      → (cs : List Entry) × (raw h (into h b new card) c ≡ Some cs)
   block-whole es good fits eq w c lc =
       ⊎_elim
       (λ (e : c ≡ b). (es ++ new, ap (raw h (into h b new card)) e ∙ block-raw es good fits eq))

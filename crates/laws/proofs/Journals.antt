@@ -1,7 +1,7 @@
 -- What a sound journal is, and where the next entry goes on it.
 use mathlib.Core.Path.{◌≡◌, refl, ap, ap₂, sym, ◌∙◌}
 use mathlib.Core.Logic.{◌⊎◌, inl, inr, ⊎_elim}
-use mathlib.Core.Option.{Option, none, some}
+use Rattle.std.specs.Prelude.{Option, None, Some}
 use mathlib.Core.List.{List, [], ◌∷◌}
 use Prim.Native.Nat.{ℕ, suc, ◌+◌, ◌-◌, ◌/◌, ◌%◌, ◌<◌}
 use mathlib.Core.Bool.{Bool, true, false}
@@ -22,26 +22,26 @@ use Rattle.laws.proofs.Buckets.{run_length}
 
 -- a slice of whole sectors, a run in it, and its stamps rise
 abbrev pub InOrder : List ℕ → List Entry → Type 0
-InOrder slice es = (length slice % 16 ≡ 0) × (run 0 slice 0 (length slice / 16) ≡ some es) × (rising 0 es ≡ true)
+InOrder slice es = (length slice % 16 ≡ 0) × (run 0 slice 0 (length slice / 16) ≡ Some es) × (rising 0 es ≡ true)
 
-whole-inv : (b : Bool) (o : Option (List Entry)) (es : List Entry) → if b o none ≡ some es → (b ≡ true) × (o ≡ some es)
+whole-inv : (b : Bool) (o : Option (List Entry)) (es : List Entry) → if b o None ≡ Some es → (b ≡ true) × (o ≡ Some es)
 whole-inv true o es q = (refl, q)
 whole-inv false o es q = absurd (none-some q)
 
-pub journal-order : (slice : List ℕ) (es : List Entry) → journal slice ≡ some es → InOrder slice es
+pub journal-order : (slice : List ℕ) (es : List Entry) → journal slice ≡ Some es → InOrder slice es
 unfolding journal sound_journal
 journal-order slice es q =
     let w = whole-inv (eqb (length slice % 16) 0) (and_then (run 0 slice 0 (length slice / 16)) sound_journal) es q in
     let i = then-inv (run 0 slice 0 (length slice / 16)) sound_journal es w.1 in
     let g = guard-true (rising 0 i.0) i.0 es i.2 in
-    (eqb-true (length slice % 16) 0 w.0, i.1 ∙ ap some g.1, sym (ap (rising 0) g.1) ∙ g.0)
+    (eqb-true (length slice % 16) 0 w.0, i.1 ∙ ap Some g.1, sym (ap (rising 0) g.1) ∙ g.0)
 
-pub order-journal : (slice : List ℕ) (es : List Entry) → InOrder slice es → journal slice ≡ some es
+pub order-journal : (slice : List ℕ) (es : List Entry) → InOrder slice es → journal slice ≡ Some es
 unfolding journal sound_journal
 order-journal slice es w = rw (eq-eqb (length slice % 16) 0 w.0, w.1, w.2)
 
 -- any other slice is refused
-pub not-journal : (slice : List ℕ) (e : Entry) → journal slice ≡ none → journal_plan slice e ≡ refuse 1
+pub not-journal : (slice : List ℕ) (e : Entry) → journal slice ≡ None → journal_plan slice e ≡ refuse 1
 unfolding journal_plan journal_for
 not-journal slice e q = rw q
 

@@ -2,7 +2,7 @@
 use mathlib.Core.Path.{◌≡◌, refl, ap, ap₂, sym, ◌∙◌, subst}
 use mathlib.Core.Logic.{⊎_elim}
 use mathlib.Core.Bool.{Bool, true, false}
-use mathlib.Core.Option.{Option, none, some}
+use Rattle.std.specs.Prelude.{Option, None, Some}
 use Prim.Native.Nat.{ℕ, ◌≤◌, ◌<◌, min}
 use native.Mathlib.Omega.{arith}
 use mathlib.Core.List.{List, [], ◌∷◌, ◌++◌, append-nil}
@@ -23,13 +23,13 @@ unfolding only
 only-append p [] ys = refl
 only-append p (x ∷ xs) ys = ap (keep_if (p x) x) (only-append p xs ys) ∙ keep_append (p x) x (only p xs) (only p ys)
 
-pub last_snoc : (xs : List Entry) (e : Entry) → last_of (xs ++ (e ∷ [])) ≡ some e
+pub last_snoc : (xs : List Entry) (e : Entry) → last_of (xs ++ (e ∷ [])) ≡ Some e
 unfolding last_of
 last_snoc [] e = refl
 last_snoc (x ∷ []) e = refl
 last_snoc (x ∷ y ∷ xs) e = last_snoc (y ∷ xs) e
 
-pub copy-snoc-same : (x : ℕ) (es : List Entry) (e : Entry) → e.key ≡ x → copy_of x (es ++ (e ∷ [])) ≡ some e
+pub copy-snoc-same : (x : ℕ) (es : List Entry) (e : Entry) → e.key ≡ x → copy_of x (es ++ (e ∷ [])) ≡ Some e
 unfolding copy_of only
 copy-snoc-same x es e q =
     rw (only-append (λ d. eqb d.key x) es (e ∷ []), eq-eqb e.key x q) (last_snoc (only (λ d. eqb d.key x) es) e)
@@ -54,14 +54,14 @@ upward-order = record {
 
 larger-better : (e : Entry) (r : Option Entry) → larger e r ≡ better upward e r
 unfolding larger
-larger-better e none = refl
-larger-better e (some d) = refl
+larger-better e None = refl
+larger-better e (Some d) = refl
 
-largest-snoc : (es : List Entry) (p : Entry) → largest (es ++ (p ∷ [])) ≡ some (top (largest es) p)
+largest-snoc : (es : List Entry) (p : Entry) → largest (es ++ (p ∷ [])) ≡ Some (top (largest es) p)
 unfolding largest
 largest-snoc = best-snoc upward upward-order largest refl (λ e es. larger-better e (largest es))
 
-pub follow-snoc-in : (x : ℕ) (es : List Entry) (p : Entry) → p.key ≤ x → follow x (es ++ (p ∷ [])) ≡ some (top (follow x es) p)
+pub follow-snoc-in : (x : ℕ) (es : List Entry) (p : Entry) → p.key ≤ x → follow x (es ++ (p ∷ [])) ≡ Some (top (follow x es) p)
 unfolding follow only
 follow-snoc-in x es p le =
     rw (only-append (λ d. leb d.key x) es (p ∷ []), le-leb p.key x le) (largest-snoc (only (λ d. leb d.key x) es) p)
@@ -154,74 +154,74 @@ only-back P q (e ∷ es) a =
     ] in
     go (q e) refl a
 
-larger-inv : (P : Entry → Type 0) (e : Entry) (r : Option Entry) (d : Entry) → P e → ((c : Entry) → r ≡ some c → P c) → larger e r ≡ some d → P d
+larger-inv : (P : Entry → Type 0) (e : Entry) (r : Option Entry) (d : Entry) → P e → ((c : Entry) → r ≡ Some c → P c) → larger e r ≡ Some d → P d
 unfolding larger
-larger-inv P e none d pe pr q = let ed : e ≡ d = cc in subst P ed pe
-larger-inv P e (some c) d pe pr q =
-    let go : (b : Bool) → if b (some c) (some e) ≡ some d → P d
-    = λ b. elim b as (λ b. if b (some c) (some e) ≡ some d → P d) [
+larger-inv P e None d pe pr q = let ed : e ≡ d = cc in subst P ed pe
+larger-inv P e (Some c) d pe pr q =
+    let go : (b : Bool) → if b (Some c) (Some e) ≡ Some d → P d
+    = λ b. elim b as (λ b. if b (Some c) (Some e) ≡ Some d → P d) [
       | true ↦ λ t. (let cd : c ≡ d = cc in subst P cd (pr c refl))
       | false ↦ λ t. (let ed : e ≡ d = cc in subst P ed pe)
     ] in
     go (leb e.key c.key) q
 
-largest-all : (P : Entry → Type 0) (es : List Entry) (d : Entry) → All P es → largest es ≡ some d → P d
+largest-all : (P : Entry → Type 0) (es : List Entry) (d : Entry) → All P es → largest es ≡ Some d → P d
 unfolding largest
 largest-all P [] d a q = absurd (none-some q)
 largest-all P (e ∷ es) d a q = larger-inv P e (largest es) d a.0 (λ c t. largest-all P es c a.1 t) q
 
-pub larger-some : (e : Entry) (r : Option Entry) → larger e r ≡ none → ⊥
+pub larger-some : (e : Entry) (r : Option Entry) → larger e r ≡ None → ⊥
 unfolding larger
-larger-some e none q = none-some (sym q)
-larger-some e (some c) q =
-    let go : (b : Bool) → if b (some c) (some e) ≡ none → ⊥
-    = λ b. elim b as (λ b. if b (some c) (some e) ≡ none → ⊥) [ true ↦ λ t. none-some (sym t) | false ↦ λ t. none-some (sym t) ] in
+larger-some e None q = none-some (sym q)
+larger-some e (Some c) q =
+    let go : (b : Bool) → if b (Some c) (Some e) ≡ None → ⊥
+    = λ b. elim b as (λ b. if b (Some c) (Some e) ≡ None → ⊥) [ true ↦ λ t. none-some (sym t) | false ↦ λ t. none-some (sym t) ] in
     go (leb e.key c.key) q
 
-largest-none : (P : Entry → Type 0) (es : List Entry) → largest es ≡ none → All P es
+largest-none : (P : Entry → Type 0) (es : List Entry) → largest es ≡ None → All P es
 unfolding largest
 largest-none P [] q = tt
 largest-none P (e ∷ es) q = absurd (larger-some e (largest es) q)
 
-larger-ge : (e : Entry) (r : Option Entry) (d : Entry) → larger e r ≡ some d → (e.key ≤ d.key) × ((c : Entry) → r ≡ some c → c.key ≤ d.key)
+larger-ge : (e : Entry) (r : Option Entry) (d : Entry) → larger e r ≡ Some d → (e.key ≤ d.key) × ((c : Entry) → r ≡ Some c → c.key ≤ d.key)
 unfolding larger
-larger-ge e none d q =
+larger-ge e None d q =
     let ed : e.key ≡ d.key = ap (λ z. z.key) (let z : e ≡ d = cc in z) in
     (omega arith, λ c t. absurd (none-some t))
-larger-ge e (some b) d q =
+larger-ge e (Some b) d q =
     ⊎_elim
-    (λ le. let t : some b ≡ some d = rw (le-leb e.key b.key le) at q in
+    (λ le. let t : Some b ≡ Some d = rw (le-leb e.key b.key le) at q in
     let bd : b.key ≡ d.key = ap (λ z. z.key) (let z : b ≡ d = cc in z) in
     (omega arith, λ c u. let cb : b.key ≡ c.key = ap (λ z. z.key) (let z : b ≡ c = cc in z) in omega arith))
-    (λ gt. let t : some e ≡ some d = rw (lt-leb e.key b.key gt) at q in
+    (λ gt. let t : Some e ≡ Some d = rw (lt-leb e.key b.key gt) at q in
     let ed : e.key ≡ d.key = ap (λ z. z.key) (let z : e ≡ d = cc in z) in
     (omega arith, λ c u. let cb : b.key ≡ c.key = ap (λ z. z.key) (let z : b ≡ c = cc in z) in omega arith))
     (le-or-lt e.key b.key)
 
-largest-ge : (es : List Entry) (d : Entry) → largest es ≡ some d → All (λ e. e.key ≤ d.key) es
+largest-ge : (es : List Entry) (d : Entry) → largest es ≡ Some d → All (λ e. e.key ≤ d.key) es
 unfolding largest
 largest-ge [] d q = tt
 largest-ge (e ∷ es) d q =
     let g = larger-ge e (largest es) d q in
     let go : (r : Option Entry) → largest es ≡ r → All (λ c. c.key ≤ d.key) es
     = λ r. elim r as (λ r. largest es ≡ r → All (λ c. c.key ≤ d.key) es) [
-      | none ↦ λ t. largest-none (λ c. c.key ≤ d.key) es t
-      | some c ↦ λ t. (let cd = g.1 c t in all_map (λ z. z.key ≤ c.key) (λ z. z.key ≤ d.key) (λ z k. omega arith) es (largest-ge es c t))
+      | None ↦ λ t. largest-none (λ c. c.key ≤ d.key) es t
+      | Some c ↦ λ t. (let cd = g.1 c t in all_map (λ z. z.key ≤ c.key) (λ z. z.key ≤ d.key) (λ z k. omega arith) es (largest-ge es c t))
     ] in
     (g.0, go (largest es) refl)
 
 -- what the entry followed is
-pub follow-all : (P : Entry → Type 0) (x : ℕ) (es : List Entry) (d : Entry) → All P es → follow x es ≡ some d → P d
+pub follow-all : (P : Entry → Type 0) (x : ℕ) (es : List Entry) (d : Entry) → All P es → follow x es ≡ Some d → P d
 unfolding follow
 follow-all P x es d a q = largest-all P (only (λ e. leb e.key x) es) d (only-all P (λ e. leb e.key x) es a) q
 
-pub follow-le : (x : ℕ) (es : List Entry) (d : Entry) → follow x es ≡ some d → d.key ≤ x
+pub follow-le : (x : ℕ) (es : List Entry) (d : Entry) → follow x es ≡ Some d → d.key ≤ x
 unfolding follow
 follow-le x es d q =
     leb-true d.key x (largest-all (λ e. leb e.key x ≡ true) (only (λ e. leb e.key x) es) d (only-true (λ e. leb e.key x) es) q)
 
 -- and no key lies between its own and x
-pub follow-gap : (x : ℕ) (es : List Entry) (d : Entry) → follow x es ≡ some d → All (λ e. e.key ≤ x → e.key ≤ d.key) es
+pub follow-gap : (x : ℕ) (es : List Entry) (d : Entry) → follow x es ≡ Some d → All (λ e. e.key ≤ x → e.key ≤ d.key) es
 unfolding follow
 follow-gap x es d q =
     all_map (λ e. leb e.key x ≡ true → e.key ≤ d.key) (λ e. e.key ≤ x → e.key ≤ d.key)
@@ -233,7 +233,7 @@ unfolding upper
 upper-same x y [] hi a = refl
 upper-same x y (e ∷ es) hi a = ap₂ (λ b u. cut b e.key u) a.0 (upper-same x y es hi a.1)
 
-pub upper-follow : (x : ℕ) (es : List Entry) (d : Entry) (hi : ℕ) → follow x es ≡ some d → upper x es hi ≡ upper d.key es hi
+pub upper-follow : (x : ℕ) (es : List Entry) (d : Entry) (hi : ℕ) → follow x es ≡ Some d → upper x es hi ≡ upper d.key es hi
 upper-follow x es d hi q =
     let le = follow-le x es d q in
     upper-same x d.key es hi
@@ -263,12 +263,12 @@ upper-min x (e ∷ es) k hi =
     (λ gt. rw (lt-ltb x e.key gt) (omega arith))
     (le-or-lt e.key x)
 
-pub last-all : (P : Entry → Type 0) (es : List Entry) (d : Entry) → All P es → last_of es ≡ some d → P d
+pub last-all : (P : Entry → Type 0) (es : List Entry) (d : Entry) → All P es → last_of es ≡ Some d → P d
 unfolding last_of
 last-all P [] d a q = absurd (none-some q)
 last-all P (e ∷ []) d a q = let ed : e ≡ d = cc in subst P ed a.0
 last-all P (e ∷ c ∷ es) d a q = last-all P (c ∷ es) d a.1 q
 
-pub copy-all : (P : Entry → Type 0) (x : ℕ) (es : List Entry) (d : Entry) → All P es → copy_of x es ≡ some d → P d
+pub copy-all : (P : Entry → Type 0) (x : ℕ) (es : List Entry) (d : Entry) → All P es → copy_of x es ≡ Some d → P d
 unfolding copy_of
 copy-all P x es d a q = last-all P (only (λ e. eqb e.key x) es) d (only-all P (λ e. eqb e.key x) es a) q

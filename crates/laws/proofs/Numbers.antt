@@ -1,7 +1,7 @@
 -- The numbers that a write is refused with: one of 1 to 6, or 14, so that an answer of 0 is acceptance, and every answer is a byte.
 use mathlib.Core.Path.{◌≡◌}
 use mathlib.Core.Bool.{Bool, true, false}
-use mathlib.Core.Option.{Option, none, some}
+use Rattle.std.specs.Prelude.{Option, None, Some}
 use mathlib.Core.List.{List}
 use Prim.Native.Nat.{ℕ, ◌<◌}
 use native.Mathlib.Omega.{arith}
@@ -24,13 +24,13 @@ if-refuses P false c p n q = q
 
 pub at-refuses : (P : ℕ → Type 0) → P 4 → P 5 → P 6 → (h : Head) (card : List ℕ) (e : Entry) (w : Option (List Visit)) → Refuses P (plan_at h card e w)
 unfolding plan_at plan_on finish checked
-at-refuses P four five six h card e none = four
-at-refuses P four five six h card e (some p) = if-refuses P _ 5 _ five (if-refuses P _ 6 (accept _) six tt)
+at-refuses P four five six h card e None = four
+at-refuses P four five six h card e (Some p) = if-refuses P _ 5 _ five (if-refuses P _ 6 (accept _) six tt)
 
 for-refuses : (P : ℕ → Type 0) → ((c : ℕ) → 0 < c → c < 15 → P c) → (card : List ℕ) (e : Entry) (o : Option Head) → Refuses P (plan_for card e o)
 unfolding plan_for
-for-refuses P f card e none = f 1 (omega arith) (omega arith)
-for-refuses P f card e (some h) =
+for-refuses P f card e None = f 1 (omega arith) (omega arith)
+for-refuses P f card e (Some h) =
     if-refuses P _ 2 _ (f 2 (omega arith) (omega arith)) (if-refuses P _ 14 _ (f 14 (omega arith) (omega arith)) (if-refuses P _ 3 _ (f 3 (omega arith) (omega arith))
     (at-refuses P (f 4 (omega arith) (omega arith)) (f 5 (omega arith) (omega arith)) (f 6 (omega arith) (omega arith)) h card e (walk h card latest e.key))))
 

@@ -1,7 +1,7 @@
 -- What an accepted plan has passed.
 use mathlib.Core.Path.{◌≡◌, refl}
 use mathlib.Core.Bool.{Bool, true, false, not}
-use mathlib.Core.Option.{Option, none, some}
+use Rattle.std.specs.Prelude.{Option, None, Some}
 use mathlib.Core.List.{List}
 use Prim.Native.Nat.{ℕ, zero, suc, ◌+◌, ◌≤◌, ◌<◌}
 use native.Mathlib.Omega.{arith}
@@ -37,14 +37,14 @@ from_one zero n = absurd (n refl)
 from_one (suc x) n = omega arith
 
 at-walk : (h : Head) (card : List ℕ) (e : Entry) (new : List ℕ) (w : Option (List Visit)) → plan_at h card e w ≡ accept new
-    → (p : List Visit) × (w ≡ some p)
+    → (p : List Visit) × (w ≡ Some p)
 unfolding plan_at
-at-walk h card e new none y = absurd (no-accept 4 new y)
-at-walk h card e new (some p) y = (p, refl)
+at-walk h card e new None y = absurd (no-accept 4 new y)
+at-walk h card e new (Some p) y = (p, refl)
 
 -- a plan that is accepted has a walk that arrives
-pub plan-walk : (h : Head) (card : List ℕ) (e : Entry) (new : List ℕ) → head_of card ≡ some h → plan card e ≡ accept new
-    → (p : List Visit) × (walk h card latest e.key ≡ some p)
+pub plan-walk : (h : Head) (card : List ℕ) (e : Entry) (new : List ℕ) → head_of card ≡ Some h → plan card e ≡ accept new
+    → (p : List Visit) × (walk h card latest e.key ≡ Some p)
 unfolding plan plan_for
 plan-walk h card e new hq q =
     let w = walk h card latest e.key in
@@ -57,7 +57,7 @@ plan-walk h card e new hq q =
     at-walk h card e new w b.1
 
 -- and its bib is from 1, its stamp above every stamp in the buckets, and its status fits
-pub plan-inv : (h : Head) (card : List ℕ) (e : Entry) (new : List ℕ) (p : List Visit) → head_of card ≡ some h → walk h card latest e.key ≡ some p
+pub plan-inv : (h : Head) (card : List ℕ) (e : Entry) (new : List ℕ) (p : List Visit) → head_of card ≡ Some h → walk h card latest e.key ≡ Some p
     → plan card e ≡ accept new → (1 ≤ e.key) × (stamp_on h card < e.stamp) × (plan_on h card e p ≡ accept new) × (status_fits e.status e.value ≡ true)
 unfolding plan plan_for plan_at
 plan-inv h card e new p hq wq q =

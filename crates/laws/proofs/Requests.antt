@@ -2,7 +2,7 @@
 use mathlib.Core.Path.{◌∙◌, ◌≡◌, ap, refl, sym}
 use mathlib.Core.Logic.{◌⊎◌, inl, inr, ⊎_elim}
 use mathlib.Core.Bool.{Bool, true, false}
-use mathlib.Core.Option.{Option, none, some}
+use Rattle.std.specs.Prelude.{Option, None, Some}
 use mathlib.Core.List.{List}
 use Prim.Native.Nat.{ℕ}
 use lib.Dec.{eqb}
@@ -56,15 +56,15 @@ unfolding well_asked Asks is_post
 well-encode e a = rw (fields-encode e) (true-and (zero-bytes e) (well-kinds e a.1))
 
 -- 1, 11, then the entry's plan
-pub no-card : (card r : List ℕ) → head_of card ≡ none → request card r ≡ refuse 1
+pub no-card : (card r : List ℕ) → head_of card ≡ None → request card r ≡ refuse 1
 unfolding request request_for
 no-card card r q = rw q
 
-pub ill-asked : (card r : List ℕ) (h : Head) → head_of card ≡ some h → well_asked r ≡ false → request card r ≡ refuse 11
+pub ill-asked : (card r : List ℕ) (h : Head) → head_of card ≡ Some h → well_asked r ≡ false → request card r ≡ refuse 11
 unfolding request request_for refuse_if
 ill-asked card r h q w = rw (q, w)
 
-pub asked : (card r : List ℕ) (h : Head) → head_of card ≡ some h → well_asked r ≡ true → request card r ≡ plan card (fields r)
+pub asked : (card r : List ℕ) (h : Head) → head_of card ≡ Some h → well_asked r ≡ true → request card r ≡ plan card (fields r)
 unfolding request request_for refuse_if
 asked card r h q w = rw (q, w)
 
@@ -74,5 +74,5 @@ unfolding plan plan_for Asks
 request-encode card e a = go (head_of card) refl
   where
     go : (o : Option Head) → head_of card ≡ o → request card (encode e) ≡ plan_for card e (head_of card)
-    go none q = no-card card (encode e) q ∙ sym (ap (plan_for card e) q)
-    go (some h) q = asked card (encode e) h q (well-encode e a) ∙ ap (plan card) (fields-encode e)
+    go None q = no-card card (encode e) q ∙ sym (ap (plan_for card e) q)
+    go (Some h) q = asked card (encode e) h q (well-encode e a) ∙ ap (plan card) (fields-encode e)

@@ -1,7 +1,7 @@
 -- The bucket that a write's walk starts from, and which it is after an accepted write, on any card with a head.
 use mathlib.Core.Path.{◌∙◌, ◌≡◌, ap, refl, sym, subst}
 use mathlib.Core.Bool.{true, false}
-use mathlib.Core.Option.{Option, none, some}
+use Rattle.std.specs.Prelude.{Option, None, Some}
 use Prim.Native.Nat.{◌+◌, ◌-◌, ◌/◌, ◌<◌, ◌≤◌, ℕ}
 use native.Mathlib.Omega.{arith}
 use mathlib.Core.List.{List, [], ◌++◌, ◌∷◌}
@@ -30,8 +30,8 @@ use Rattle.laws.proofs.AsMet.{front-met}
 use Rattle.laws.proofs.Carries.{climb-next}
 
 unfoldable pub value_of : Option Entry → ℕ
-value_of none = 0
-value_of (some e) = e.value
+value_of None = 0
+value_of (Some e) = e.value
 
 -- the bucket of the log's last root entry; 0 where the log is damaged
 unfoldable pub root_now : Head → List ℕ → ℕ
@@ -42,12 +42,12 @@ unfolding is_root
 is-root s b = refl
 
 -- a root entry behind the others is the last, whatever their stamps
-last-left : (lg : List Entry) (e : Entry) → e.stamp < 4294967296 → last_of (left latest (lg ++ (e ∷ []))) ≡ some e
+last-left : (lg : List Entry) (e : Entry) → e.stamp < 4294967296 → last_of (left latest (lg ++ (e ∷ []))) ≡ Some e
 unfolding left only
 last-left lg e lt =
     rw (only-append (λ d. leb d.stamp latest) lg (e ∷ []), le-leb e.stamp latest (omega arith)) (last_snoc (only (λ d. leb d.stamp latest) lg) e)
 
-root-logged : (h : Head) (card : List ℕ) (lg : List Entry) (s b : ℕ) → h.n ≤ 4096 → size_of h ≡ length card → log h card ≡ some lg
+root-logged : (h : Head) (card : List ℕ) (lg : List Entry) (s b : ℕ) → h.n ≤ 4096 → size_of h ≡ length card → log h card ≡ Some lg
     → 1 ≤ length (log_blanks h card) → s < 4294967296 → 1 ≤ b → b ≤ h.n
     → root_now h (fill card (log_blanks h card) (root_entry s b ∷ [])) ≡ b
 unfolding root_now value_of
@@ -92,7 +92,7 @@ module _ (h : Head) (s : ℕ) (e : Entry) where
       (omega (arith, l.0), l.1)
 
 -- a write of e on any card with a head whose elements are bytes
-module _ (h : Head) (card : List ℕ) (hq : head_of card ≡ some h) (by : Bytes card) (e : Entry) (fine : Fine h.n e) (p : List Visit) (w : walk h card latest e.key ≡ some p)
+module _ (h : Head) (card : List ℕ) (hq : head_of card ≡ Some h) (by : Bytes card) (e : Entry) (fine : Fine h.n e) (p : List Visit) (w : walk h card latest e.key ≡ Some p)
     (new : List ℕ) (q : plan_on h card e p ≡ accept new) where
   abbrev s : ℕ
   s = e.stamp
@@ -113,7 +113,7 @@ module _ (h : Head) (card : List ℕ) (hq : head_of card ≡ some h) (by : Bytes
   size : size_of h ≡ length up.card
   size = (climb-next h card hq by e fine e.key [] p w within).0.size
 
-  logs : (lg : List Entry) × (log h up.card ≡ some lg)
+  logs : (lg : List Entry) × (log h up.card ≡ Some lg)
   logs =
       let l = walk-log h card latest e.key p w in
       (l.0, log-same h card up.card (front-met h card hq latest e.key [] p w s (e ∷ []) within) ∙ l.1)
@@ -132,7 +132,7 @@ module _ (h : Head) (card : List ℕ) (hq : head_of card ≡ some h) (by : Bytes
       one_left n ne = omega (arith, ne)
 
   path-there : (p ≡ [] → ⊥)
-  path-there z = walk-some h card latest e.key (w ∙ ap some z)
+  path-there z = walk-some h card latest e.key (w ∙ ap Some z)
 
   -- the only pair in hand, where the root itself was rewritten to one bucket
   alone : (d : Entry) → up.hand ≡ d ∷ [] → (top_used h card h.n + 1 ≤ d.value) × (d.value + 1 ≡ up.fresh)

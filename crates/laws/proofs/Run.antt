@@ -2,7 +2,7 @@
 use mathlib.Core.Path.{◌≡◌, refl, ap, ap₂, sym, ◌∙◌}
 use mathlib.Core.Logic.{◌⊎◌, inl, inr, ⊎_elim}
 use mathlib.Core.Bool.{true}
-use mathlib.Core.Option.{Option, none, some}
+use Rattle.std.specs.Prelude.{Option, None, Some}
 use Prim.Native.Nat.{ℕ, zero, suc, ◌+◌, ◌*◌, ◌≤◌, ◌<◌}
 use native.Mathlib.Omega.{arith}
 use mathlib.Core.List.{List, [], ◌∷◌}
@@ -39,16 +39,16 @@ blanks-agree a b i (suc c) h =
 -- how a run that is read begins
 abbrev pub Begins : Sector → Option (List Entry) → List Entry → Type 0
 Begins s r es =
-    ((s ≡ Blank) × (es ≡ []) × (r ≡ some []))
-    ⊎ ((x : Entry) × (xs : List Entry) × (s ≡ Held x) × (es ≡ x ∷ xs) × (r ≡ some xs))
+    ((s ≡ Blank) × (es ≡ []) × (r ≡ Some []))
+    ⊎ ((x : Entry) × (xs : List Entry) × (s ≡ Held x) × (es ≡ x ∷ xs) × (r ≡ Some xs))
 
-pub onto-inv : (s : Sector) (r : Option (List Entry)) (es : List Entry) → onto s r ≡ some es → Begins s r es
+pub onto-inv : (s : Sector) (r : Option (List Entry)) (es : List Entry) → onto s r ≡ Some es → Begins s r es
 unfolding onto
-onto-inv Blank none es e = absurd (none-some e)
-onto-inv Blank (some []) es e = inl (refl, cc, refl)
-onto-inv Blank (some (x ∷ xs)) es e = absurd (none-some e)
-onto-inv (Held x) none es e = absurd (none-some e)
-onto-inv (Held x) (some xs) es e = inr (x, xs, refl, cc, refl)
+onto-inv Blank None es e = absurd (none-some e)
+onto-inv Blank (Some []) es e = inl (refl, cc, refl)
+onto-inv Blank (Some (x ∷ xs)) es e = absurd (none-some e)
+onto-inv (Held x) None es e = absurd (none-some e)
+onto-inv (Held x) (Some xs) es e = inr (x, xs, refl, cc, refl)
 onto-inv Damaged r es e = absurd (none-some e)
 
 -- e, put at sector k, is read there

@@ -5,7 +5,7 @@ use lib.ListN.{get_or, length}
 use mathlib.Core.Bool.{true}
 use mathlib.Core.List.{List, [], ◌∷◌}
 use mathlib.Core.Logic.{⊎_elim}
-use mathlib.Core.Option.{none, some}
+use Rattle.std.specs.Prelude.{None, Some}
 use mathlib.Core.Path.{◌∙◌, ◌≡◌, ap, subst, sym}
 use native.Mathlib.Omega.{arith}
 use Rattle.rules.specs.declared.Entry.{Entry}
@@ -57,14 +57,14 @@ unfolding stamp_of
 stamp-blank s z = rw (eq-eqb (get_or s 0 0) 0 (zeros-get s 0 z))
 
 pub run-stamps : (n : ℕ) (card : List ℕ) (t i c : ℕ) (es : List Entry) → ((j : ℕ) → i ≤ j → j < i + c → stamp_of (sector_at card j) ≤ t)
-    → run n card i c ≡ some es → All (λ e. e.stamp ≤ t) es
+    → run n card i c ≡ Some es → All (λ e. e.stamp ≤ t) es
 unfolding run
 run-stamps n card t i zero [] f q = tt
-run-stamps n card t i zero (e ∷ es) f q = absurd (none-some (let z : none ≡ some e = cc in z))
+run-stamps n card t i zero (e ∷ es) f q = absurd (none-some (let z : None ≡ Some e = cc in z))
 run-stamps n card t i (suc c) es f q =
     ⊎_elim
-    (λ (v : (decode n (sector_at card i) ≡ Blank) × (es ≡ []) × (run n card (suc i) c ≡ some [])). subst (All (λ e. e.stamp ≤ t)) (sym v.1) tt)
-    (λ (v : (x : Entry) × (xs : List Entry) × (decode n (sector_at card i) ≡ Held x) × (es ≡ x ∷ xs) × (run n card (suc i) c ≡ some xs)).
+    (λ (v : (decode n (sector_at card i) ≡ Blank) × (es ≡ []) × (run n card (suc i) c ≡ Some [])). subst (All (λ e. e.stamp ≤ t)) (sym v.1) tt)
+    (λ (v : (x : Entry) × (xs : List Entry) × (decode n (sector_at card i) ≡ Held x) × (es ≡ x ∷ xs) × (run n card (suc i) c ≡ Some xs)).
     let hs = held-stamp n (sector_at card i) v.0 v.2 in
     let fi = f i (omega arith) (omega arith) in
     subst (All (λ e. e.stamp ≤ t)) (sym v.3) (omega arith, run-stamps n card t (suc i) c v.1 (λ j a b. f j (omega arith) (omega arith)) v.4))
@@ -72,7 +72,7 @@ run-stamps n card t i (suc c) es f q =
 
 -- what is not below the largest stamp is not below any entry's
 pub bucket-stamps : (h : Head) (card : List ℕ) → size_of h ≡ length card → (s : ℕ) → stamp_on h card ≤ s
-    → (c : ℕ) (cs : List Entry) → bucket h card c ≡ some cs → All (λ e. e.stamp ≤ s) cs
+    → (c : ℕ) (cs : List Entry) → bucket h card c ≡ Some cs → All (λ e. e.stamp ≤ s) cs
 unfolding base stamp_on
 bucket-stamps h card size s le c cs q =
     let r = bucket-raw h card c cs q in

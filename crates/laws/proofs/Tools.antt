@@ -4,7 +4,7 @@ use mathlib.Core.Logic.{◌⊎◌, inl, inr, ⊎_elim}
 use mathlib.Core.Bool.{Bool, true, false}
 use Prim.Native.Nat.{ℕ, ◌≤◌, ◌<◌}
 use lib.Dec.{leb, eqb}
-use mathlib.Core.Option.{Option, none, some}
+use Rattle.std.specs.Prelude.{Option, None, Some, Ok, Err, ok_or}
 use native.Mathlib.Omega.{arith}
 use borrow.Author.Tests.{leb-true, leb-false, eqb-true, eqb-false}
 use Rattle.rules.specs.Plain.{if, ◌&◌, and_then}
@@ -37,13 +37,22 @@ pub true-and : {a b : Bool} → a ≡ true → b ≡ true → a & b ≡ true
 true-and p q = simp (p, q)
 
 -- what a guarded value is
-pub guard-true {ℓ} : {A : Type ℓ} (b : Bool) (x y : A) → if b (some x) none ≡ some y → (b ≡ true) × (x ≡ y)
+pub guard-true : {A : Type 0} (b : Bool) (x y : A) → if b (Some x) None ≡ Some y → (b ≡ true) × (x ≡ y)
 guard-true true x y e = (refl, cc)
 guard-true false x y e = (cc, cc)
 
-pub none-some : {A : Type 0} {x : A} → none ≡ some x → ⊥
+pub none-some : {A : Type 0} {x : A} → None ≡ Some x → ⊥
 none-some e = let z : ◌≡◌ {A = ℕ} 0 1 = cc in omega arith
 
-pub then-inv : {A B : Type 0} (a : Option A) (f : A → Option B) (b : B) → and_then a f ≡ some b → (x : A) × (a ≡ some x) × (f x ≡ some b)
-then-inv none f b e = absurd (none-some e)
-then-inv (some x) f b e = (x, refl, e)
+pub then-inv : {A B : Type 0} (a : Option A) (f : A → Option B) (b : B) → and_then a f ≡ Some b → (x : A) × (a ≡ Some x) × (f x ≡ Some b)
+then-inv None f b e = absurd (none-some e)
+then-inv (Some x) f b e = (x, refl, e)
+
+-- an Option that was asked for as a Result
+pub or-ok : {A E : Type 0} (o : Option A) (r : E) (x : A) → ok_or o r ≡ Ok x → o ≡ Some x
+or-ok None r x q = let z : ◌≡◌ {A = ℕ} 0 1 = cc in absurd (omega arith)
+or-ok (Some y) r x q = cc
+
+pub or-err : {A E : Type 0} (o : Option A) (r e : E) → ok_or o r ≡ Err e → (e ≡ r) × (o ≡ None)
+or-err None r e q = (cc, refl)
+or-err (Some y) r e q = let z : ◌≡◌ {A = ℕ} 0 1 = cc in absurd (omega arith)

@@ -2,7 +2,7 @@
 use mathlib.Core.Path.{◌∙◌, ◌≡◌, ap, refl, sym}
 use mathlib.Core.Logic.{⊎_elim}
 use mathlib.Core.Bool.{Bool, false, true}
-use mathlib.Core.Option.{some}
+use Rattle.std.specs.Prelude.{Some}
 use Prim.Native.Nat.{◌+◌, ◌<◌, ◌≤◌, suc, zero, ℕ}
 use native.Mathlib.Omega.{arith}
 use mathlib.Core.List.{List, []}
@@ -27,7 +27,7 @@ unwritten-each card i (suc c) j u p q =
     (λ (gt : i < j). unwritten-each card (suc i) c j t.1 (omega arith) (omega arith))
     (le-or-lt j i)
 
-pub run-blank : (n : ℕ) (card : List ℕ) (i c : ℕ) → ((j : ℕ) → i ≤ j → j < i + c → zeros (sector_at card j) ≡ true) → run n card i c ≡ some []
+pub run-blank : (n : ℕ) (card : List ℕ) (i c : ℕ) → ((j : ℕ) → i ≤ j → j < i + c → zeros (sector_at card j) ≡ true) → run n card i c ≡ Some []
 unfolding run decode onto
 run-blank n card i zero f = refl
 run-blank n card i (suc c) f = rw (f i (omega arith) (omega arith), run-blank n card (suc i) c (λ j p q. f j (omega arith) (omega arith)))
@@ -46,7 +46,7 @@ top-sector : (h : Head) (card : List ℕ) (c j : ℕ) → top_used h card h.n < 
     → zeros (sector_at card j) ≡ true
 top-sector h card c j p q a b = unwritten-each card (base h c) h.m j (top-blank h card h.n c p q) a b
 
-pub top-raw : (h : Head) (card : List ℕ) (c : ℕ) → top_used h card h.n < c → c ≤ h.n → raw h card c ≡ some []
+pub top-raw : (h : Head) (card : List ℕ) (c : ℕ) → top_used h card h.n < c → c ≤ h.n → raw h card c ≡ Some []
 top-raw h card c p q = run-blank h.n card (base h c) h.m (λ j a b. top-sector h card c j p q a b)
 
 pub used-within : (h : Head) (card : List ℕ) (n : ℕ) → top_used h card n ≤ n
@@ -57,7 +57,7 @@ used-within h card (suc n) =
     elim (unwritten card (base h (suc n)) h.m) as (λ b. (elim b as (λ x. ℕ) [ true ↦ top_used h card n | false ↦ suc n ]) ≤ suc n) [ true ↦ omega arith | false ↦ omega arith ]
 
 -- and a bucket that can be read is not past it
-pub used-top : (h : Head) (card : List ℕ) (b : ℕ) (es : List Entry) → size_of h ≡ length card → bucket h card b ≡ some es → b ≤ top_used h card h.n
+pub used-top : (h : Head) (card : List ℕ) (b : ℕ) (es : List Entry) → size_of h ≡ length card → bucket h card b ≡ Some es → b ≤ top_used h card h.n
 unfolding sound_bucket
 used-top h card b es size q =
     ⊎_elim (λ le. le)

@@ -3,7 +3,7 @@ use Prim.Native.Nat.{◌<◌, ◌≤◌, ℕ, ◌+◌, ◌*◌}
 use lib.ListN.{length}
 use mathlib.Core.List.{List, [], ◌∷◌}
 use mathlib.Core.Logic.{⊎_elim}
-use mathlib.Core.Option.{some}
+use Rattle.std.specs.Prelude.{Some}
 use mathlib.Core.Path.{◌∙◌, ◌≡◌, ap}
 use native.Mathlib.Omega.{arith}
 use Rattle.rules.specs.declared.Entry.{Entry}
@@ -30,7 +30,7 @@ unfolding pair
 pair-upto s b ks = omega arith
 
 -- what an accepted call puts, on any card with a head whose elements are bytes
-pub call-puts : (h : Head) (card : List ℕ) → head_of card ≡ some h → Bytes card → (e : Entry) → Asks e → (new : List ℕ) → plan card e ≡ accept new
+pub call-puts : (h : Head) (card : List ℕ) → head_of card ≡ Some h → Bytes card → (e : Entry) → Asks e → (new : List ℕ) → plan card e ≡ accept new
     → (is : List ℕ) × Puts h (λ d. d.stamp ≤ e.stamp) card is new
 call-puts h card hq by e a new q =
     let hf = head-facts card h hq in
@@ -42,7 +42,7 @@ call-puts h card hq by e a new q =
     let up = bucket-stamps h card size (stamp_on h card) (omega arith) in
     let Q : Entry → Type 0 = λ d. d.stamp ≤ e.stamp in
     plan-chain h hf.0.n4096 Q e (pair-upto e.stamp) card size (fe, omega arith) pw.0
-    (along-map (λ v. bucket h card v.number ≡ some v.entries) (λ v. (1 ≤ v.number) × (v.number ≤ h.n) × All (λ d. Fine h.n d × Q d) v.entries)
+    (along-map (λ v. bucket h card v.number ≡ Some v.entries) (λ v. (1 ≤ v.number) × (v.number ≤ h.n) × All (λ d. Fine h.n d × Q d) v.entries)
     (λ v z. let br = bucket-raw h card v.number v.entries z in (
       br.0,
       bucket-within h card v.number v.entries size z,
@@ -68,7 +68,7 @@ chain-top h s card new size ch old =
     (puts-sector h (λ d. d.stamp ≤ s) card ch.0 new size ch.1 j))
 
 -- so no stamp in the buckets is above the call's
-pub top-after : (h : Head) (card : List ℕ) → head_of card ≡ some h → Bytes card → (e : Entry) → Asks e → (new : List ℕ) → plan card e ≡ accept new
+pub top-after : (h : Head) (card : List ℕ) → head_of card ≡ Some h → Bytes card → (e : Entry) → Asks e → (new : List ℕ) → plan card e ≡ accept new
     → stamp_on h new ≤ e.stamp
 unfolding stamp_on
 top-after h card hq by e a new q =

@@ -1,5 +1,6 @@
 -- One level as the code goes through it: sectors counted and laid down in a row, pairs by number.
 use Rattle.std.specs.Prelude.{ℕ, zero, suc, ◌+◌, ◌-◌, ◌*◌, ◌/◌, List, [], ◌∷◌, ltb, eqb, length, get_or, take, drop}
+use Rattle.std.specs.Prelude.{Option, None, Some}
 use Rattle.rules.specs.declared.Entry.{Entry}
 use Rattle.rules.specs.Plain.{if}
 use Rattle.rules.specs.Rewrite.{pair}
@@ -7,8 +8,12 @@ use Rattle.laws.proofs.Lists.{All}
 use Rattle.writer.specs.Words.{Narrow}
 use Rattle.level.specs.declared.Sent.{Sent}
 
+abbrev pub if_any : Option Entry → List Entry
+if_any None = []
+if_any (Some e) = e ∷ []
+
 abbrev pub sent_list : Sent → List Entry
-sent_list p = if p.two (p.low ∷ p.high ∷ []) (p.low ∷ [])
+sent_list p = p.low ∷ if_any p.high
 
 -- how many of c sectors from sector i are written, after u that were
 abbrev pub used_of : ℕ → List ℕ → ℕ → ℕ → ℕ

@@ -1,22 +1,20 @@
 // One level of a write: how much of a bucket is written, what is kept of it, what goes up and what goes down.
 #![tactic(auto)]
 
-ghost use Rattle.std.specs.Prelude.{◌≡◌, ◌++◌, ◌+◌, ◌-◌, ◌*◌, ◌≤◌, ◌<◌, length, drop};
-ghost use Rattle.std.proofs.Math.Seq.{slice};
+ghost use Rattle.std.specs.Prelude.{◌≡◌, ◌++◌, ◌+◌, ◌*◌, ◌≤◌, ◌<◌, length};
 ghost use Rattle.rules.specs.Rewrite.{key_of, kept, pair, limit_of};
-ghost use Rattle.hand.specs.Hand.{held, entries_at};
+ghost use Rattle.hand.specs.Hand.{entries_at};
 ghost use Rattle.writer.specs.Rows.{puts};
 ghost use Rattle.level.specs.Level.{sent_list, used_of, pairs_of, need_of, AllSmall};
 
 use hand::Hand;
-use rules::{Entry, Head};
+use rules::{Entry, Head, Kind};
 
-// What goes up from a level: the call's entry at first, then the pairs of the new buckets.
+// What goes up from a level: the call's entry at first, then the pairs of the new buckets, of which there may be a second.
 #[derive(Clone, Copy)]
 pub struct Sent {
     pub low: Entry,
-    pub high: Entry,
-    pub two: bool,
+    pub high: Option<Entry>,
 }
 
 // How many of a bucket's m sectors are written, from its start.
@@ -24,57 +22,54 @@ pub fn used(part: &[u8], m: usize) -> usize
     requires { 16 * m ≤ length part.now }
     ensures { (result ≤ m) × (result ≡ used_of 0 part.now 0 m) }
 {
-    let mut u = 0;
-    while u < m {
-        let a = 16 * u;
-        if part[a] == 0 {
-            return u;
+    for i in 0..m {
+        if part[16 * i] == 0 {
+            return i;
         }
-        u += 1;
     }
-    u
+    m
 }
 
 pub fn sent_count(p: Sent) -> usize
     ensures { (result ≡ length (sent_list p)) × (1 ≤ result) × (result ≤ 2) }
 {
-    if p.two { 2 } else { 1 }
+    if p.high.is_some() { 2 } else { 1 }
 }
 
-fn with_sent(h: Hand, p: Sent) -> Hand
-    requires { h.count < 33 }
-    ensures { (result.count ≤ h.count + 2) × (held result ≡ held h ++ sent_list p) }
+// The key of the first entry, 0 where there is none.
+#[tactic(auto, unfolding(rules::specs::Rewrite::key_of))]
+fn key_of(entries: &[Entry]) -> u32
+    ensures { result ≡ key_of entries.now }
 {
-    let low = p.low;
-    let high = p.high;
-    if p.two {
-        let one = hand::push(h, low);
-        return hand::push(one, high);
+    match entries {
+        [] => 0,
+        [e, ..] => e.key,
     }
-    hand::push(h, low)
 }
 
-// The key of entry i, 0 where there is none.
-fn key_at(h: Hand, i: usize) -> u32
-    requires { h.count ≤ 34 }
-    ensures { result ≡ key_of (drop i (held h)) }
+// What was sent joins those in hand.
+fn add(hand: &mut Hand, p: Sent)
+    requires { length hand.old < 33 }
+    ensures value { hand.new ≡ hand.old ++ sent_list p }
+    ensures most { length hand.new ≤ length hand.old + 2 }
 {
-    let n = h.count;
-    if i < n {
-        let x = h.entries[i];
-        return x.key;
+    hand.push(p.low);
+    if let Some(high) = p.high {
+        hand.push(high);
     }
-    0
 }
 
 // What a rewrite keeps of the first `used` entries of a bucket and those sent to it.
 pub fn regrouped(part: &[u8], used: usize, p: Sent, stamp: u32) -> Hand
     requires { (16 * used ≤ length part.now) × (used ≤ 32) }
-    ensures { (result.count ≤ used + 2) × (result.count ≡ length (held result)) × (held result ≡ kept (key_of (entries_at part.now 0 used)) stamp (entries_at part.now 0 used ++ sent_list p)) }
+    ensures { (length result ≤ used + 2) × (result ≡ kept (key_of (entries_at part.now 0 used)) stamp (entries_at part.now 0 used ++ sent_list p)) }
 {
-    let got = hand::gathered(part, used);
-    let header = key_at(got, 0);
-    hand::thinned(hand::in_order(with_sent(got, p)), header, stamp)
+    let mut hand = Hand::gathered(part, used);
+    let header = key_of(hand.as_slice());
+    add(&mut hand, p);
+    hand.put_in_order();
+    hand.thin(header, stamp);
+    hand
 }
 
 // The fewest entries that make two buckets: TI for an index bucket, TD for a data bucket.
@@ -82,71 +77,57 @@ pub fn limit(part: &[u8], used: usize, head: Head) -> usize
     requires { (16 * used ≤ length part.now) × (1 ≤ used) }
     ensures { result ≡ limit_of head (entries_at part.now 0 used) }
 {
-    if part[0] == 3 {
-        return head.ti;
+    if part[0] == Kind::Index as u8 {
+        head.ti
+    } else {
+        head.td
     }
-    head.td
 }
 
-pub fn fresh_needed(h: Hand, limit: usize) -> usize
-    requires { h.count ≡ length (held h) }
-    ensures { (result ≡ need_of limit (held h)) × (1 ≤ result) × (result ≤ 2) }
+pub fn fresh_needed(entries: &[Entry], limit: usize) -> usize
+    ensures { (result ≡ need_of limit entries.now) × (1 ≤ result) × (result ≤ 2) }
 {
-    let n = h.count;
+    let n = entries.len();
     if n < limit { 1 } else { 2 }
 }
 
-// The pair of a new bucket b whose entries begin with entry i.
-fn pair_at(h: Hand, i: usize, b: usize, stamp: u32) -> Entry
-    requires { (h.count ≤ 34) × (b < 4294967296) }
-    ensures { result ≡ pair stamp b (drop i (held h)) }
+// The pair of a new bucket b that takes these entries.
+#[tactic(auto, unfolding(rules::specs::Rewrite::pair))]
+fn pair(entries: &[Entry], b: usize, stamp: u32) -> Entry
+    requires { b < 4294967296 }
+    ensures { result ≡ pair stamp b entries.now }
 {
-    let key = key_at(h, i);
-    Entry {
-        kind: 3,
-        status: 0,
-        key,
-        stamp,
-        value: b as u32,
-    }
+    let key = key_of(entries);
+    Entry::index(key, stamp, b as u32)
 }
 
-// What the new buckets of a hand, numbered from `fresh`, send up.
-pub fn pairs(h: Hand, limit: usize, fresh: usize, stamp: u32) -> Sent
-    requires { (h.count ≡ length (held h)) × (h.count ≤ 34) × (fresh < 1000000) }
-    ensures { sent_list result ≡ pairs_of stamp limit fresh (held h) }
+// What the new buckets of these entries, numbered from `fresh`, send up.
+#[tactic(auto, unfolding(crate::specs::Level::pairs_of))]
+pub fn pairs(entries: &[Entry], limit: usize, fresh: usize, stamp: u32) -> Sent
+    requires { fresh < 1000000 }
+    ensures { sent_list result ≡ pairs_of stamp limit fresh entries.now }
 {
-    let n = h.count;
-    let low = pair_at(h, 0, fresh, stamp);
+    let n = entries.len();
     if n < limit {
-        let high = low;
         return Sent {
-            low,
-            high,
-            two: false,
+            low: pair(entries, fresh, stamp),
+            high: None,
         };
     }
-    let cut = hand::halved(n);
-    let high = pair_at(h, cut, fresh + 1, stamp);
+    let (first, second) = entries.split_at(hand::halved(n));
     Sent {
-        low,
-        high,
-        two: true,
+        low: pair(first, fresh, stamp),
+        high: Some(pair(second, fresh + 1, stamp)),
     }
 }
 
-// Entries from..to of the hand, into the card's sectors from `at` on.
-pub fn write_run(card: &mut [u8], at: usize, h: Hand, from: usize, to: usize)
-    requires { (from ≤ to) × (to ≤ 34) × (16 * (at + (to - from)) ≤ length card.old) × AllSmall (slice from to h.entries) }
-    ensures { card.new ≡ puts card.old at (slice from to h.entries) }
+// These entries, into the card's sectors from `at` on.
+pub fn write_run(card: &mut [u8], at: usize, entries: &[Entry])
+    requires { (16 * (at + length entries.now) ≤ length card.old) × AllSmall entries.now }
+    ensures { card.new ≡ puts card.old at entries.now }
 {
-    let mut i = at;
-    let mut j = from;
-    while j < to {
-        let e = h.entries[j];
-        writer::write_entry(card, i, e);
-        i += 1;
-        j += 1;
+    for (i, e) in entries.iter().enumerate() {
+        writer::write_entry(card, at + i, *e);
     }
 }
 
@@ -155,12 +136,8 @@ pub fn write_sent(card: &mut [u8], at: usize, p: Sent)
     requires { (16 * (at + length (sent_list p)) ≤ length card.old) × AllSmall (sent_list p) }
     ensures { card.new ≡ puts card.old at (sent_list p) }
 {
-    let low = p.low;
-    let high = p.high;
-    if p.two {
-        writer::write_entry(card, at, low);
+    writer::write_entry(card, at, p.low);
+    if let Some(high) = p.high {
         writer::write_entry(card, at + 1, high);
-    } else {
-        writer::write_entry(card, at, low);
     }
 }

@@ -3,7 +3,7 @@ use mathlib.Core.Path.{◌≡◌, refl, sym, ap, ◌∙◌}
 use mathlib.Core.Logic.{⊎_elim}
 use mathlib.Core.Bool.{true, false}
 use mathlib.Core.List.{List, [], ◌∷◌}
-use mathlib.Core.Option.{Option, none, some}
+use Rattle.std.specs.Prelude.{Option, None, Some}
 use Prim.Native.Nat.{ℕ, suc, ◌+◌, ◌*◌, ◌-◌, ◌^◌, ◌≤◌, ◌<◌}
 use native.Mathlib.Omega.{arith}
 use native.Mathlib.Nat.{pow-suc, pow-le-pow_right}
@@ -16,7 +16,7 @@ use Rattle.rules.specs.Bench.{text, behind, is_digit, digits, beyond, number_on,
 use Rattle.laws.proofs.Tools.{bool_cases, le-or-lt, and-true, guard-true, none-some, then-inv}
 
 -- a name and what is behind it
-behind-length : (name l rest : List ℕ) → behind name l ≡ some rest → length l ≡ length name + length rest
+behind-length : (name l rest : List ℕ) → behind name l ≡ Some rest → length l ≡ length name + length rest
 unfolding behind
 behind-length [] l rest e = let q : l ≡ rest = cc in rw q (omega arith)
 behind-length (x ∷ name) [] rest e = absurd (none-some e)
@@ -56,7 +56,7 @@ number-tenfold j acc (x ∷ ds) h =
     rw e (number-tenfold (suc j) (acc * 10 + (x - 48)) ds (omega (arith, pow-suc 10 j)))
 
 -- a number has ten digits at most
-number-length : (l : List ℕ) (v : ℕ) (ds : List ℕ) → digits l ≡ ds → number ds ≡ some v → length ds ≤ 10
+number-length : (l : List ℕ) (v : ℕ) (ds : List ℕ) → digits l ≡ ds → number ds ≡ Some v → length ds ≤ 10
 unfolding number number_on up_to32
 number-length l v [] d e = omega arith
 number-length l v (x ∷ []) d e = omega arith
@@ -80,7 +80,7 @@ most : List (List ℕ) → ℕ
 most [] = 0
 most (name ∷ names) = length name + 10 + most names
 
-numbers-length : (names : List (List ℕ)) (l xs : List ℕ) → numbers names l ≡ some xs → length l ≤ most names
+numbers-length : (names : List (List ℕ)) (l xs : List ℕ) → numbers names l ≡ Some xs → length l ≤ most names
 unfolding numbers most
 numbers-length [] [] xs e = omega arith
 numbers-length [] (x ∷ l) xs e = absurd (none-some e)
@@ -95,14 +95,14 @@ numbers-length (name ∷ names) l xs e =
     let d = numbers-length names (beyond rest) others.0 others.1 in
     omega arith
 
-numbers-long : (names : List (List ℕ)) (l : List ℕ) → most names < length l → numbers names l ≡ none
+numbers-long : (names : List (List ℕ)) (l : List ℕ) → most names < length l → numbers names l ≡ None
 numbers-long names l h = cases (numbers names l) refl
   where
-    cases : (o : Option (List ℕ)) → numbers names l ≡ o → o ≡ none
-    cases none e = refl
-    cases (some xs) e = absurd (let k = numbers-length names l xs e in omega arith)
+    cases : (o : Option (List ℕ)) → numbers names l ≡ o → o ≡ None
+    cases None e = refl
+    cases (Some xs) e = absurd (let k = numbers-length names l xs e in omega arith)
 
-pub too_long : (l : List ℕ) → 127 < length l → parsed l ≡ none
+pub too_long : (l : List ℕ) → 127 < length l → parsed l ≡ None
 unfolding parsed or_try most text format_names post_names strike_names look_names next_names
 too_long l h =
     let f = numbers-long format_names l (omega arith) in

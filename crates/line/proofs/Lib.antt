@@ -1,5 +1,5 @@
-pub mod Names
 pub mod Digits
+pub mod Names
 pub mod Fields
 pub mod Requests
 pub mod Lengths

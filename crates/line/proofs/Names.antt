@@ -1,44 +1,43 @@
--- A name and a line: a turn of their comparison, and what it says of the field.
-use mathlib.Core.Path.{◌≡◌, sym}
-use mathlib.Core.List.{List, ◌∷◌}
-use mathlib.Core.Option.{Option, none, some}
-use Prim.Native.Nat.{ℕ, ◌+◌, ◌≤◌, ◌<◌}
-use native.Mathlib.Numerals.{add-one}
-use lib.ListN.{length, get_or, drop, drop_of_length-le}
-use lib.Seq.{drop-cons, drop-length}
+-- A name at the start of a line: what stripping it says of the field.
+use mathlib.Core.Path.{◌≡◌, refl, sym}
+use mathlib.Core.Logic.{⊎_elim}
+use mathlib.Core.Bool.{true, false}
+use mathlib.Core.List.{List, [], ◌∷◌}
+use Rattle.std.specs.Prelude.{None, Some}
+use Prim.Native.Nat.{ℕ}
+use lib.ListN.{length, take, drop}
+use lib.Dec.{eqb}
+use lib.Pointwise.{pointwise}
 use borrow.Author.Tests.{eq-eqb, ne_eqb}
 use Rattle.rules.specs.Bench.{behind}
-use Rattle.line.specs.declared.Place.{Place}
-use Rattle.line.specs.declared.Place.TheVariants.{At, Missing}
-use Rattle.line.specs.Fields.{rest_at, number_in, field_in}
+use Rattle.laws.proofs.Tools.{eq-or-ne, true-false, false-true}
+use Rattle.line.specs.Fields.{number_in, field_in}
 
-module _ (line name : List ℕ) (e i : ℕ) (w : Option (List ℕ)) (inv : behind (drop i name) (drop e line) ≡ w) where
-  pub name-over : length name ≤ i → some (drop e line) ≡ w
-  unfolding behind
-  name-over h = rw (drop_of_length-le name h) at inv
+name-missing : (name line : List ℕ) → pointwise eqb (take (length name) line) name ≡ false → behind name line ≡ None
+unfolding behind
+name-missing [] line h = absurd (true-false h)
+name-missing (x ∷ name) [] h = refl
+name-missing (x ∷ name) (y ∷ line) h =
+    ⊎_elim
+    (λ (e : x ≡ y). rw (eq-eqb x y e, behind) (name-missing name line (rw (eq-eqb y x (sym e)) at h)))
+    (λ (ne : x ≡ y → ⊥). rw (ne_eqb x y ne, behind))
+    (eq-or-ne x y)
 
-  pub name-cut : i < length name → e ≡ length line → none ≡ w
-  unfolding behind
-  name-cut h q = rw (drop-cons name i 0 h, q, drop-length) at inv
+name-found : (name line : List ℕ) → pointwise eqb (take (length name) line) name ≡ true → behind name line ≡ Some (drop (length name) line)
+unfolding behind
+name-found [] line h = refl
+name-found (x ∷ name) [] h = absurd (false-true h)
+name-found (x ∷ name) (y ∷ line) h =
+    ⊎_elim
+    (λ (e : x ≡ y). rw (eq-eqb x y e, behind) (name-found name line (rw (eq-eqb y x (sym e)) at h)))
+    (λ (ne : x ≡ y → ⊥). absurd (false-true (rw (ne_eqb y x (λ (q : y ≡ x). ne (sym q))) at h)))
+    (eq-or-ne x y)
 
-  module _ (h : i < length name) (k : e < length line) where
-    turn : behind (get_or name i 0 ∷ drop (i + 1) name) (get_or line e 0 ∷ drop (e + 1) line) ≡ w
-    turn = rw (add-one i, add-one e) (rw (drop-cons name i 0 h, drop-cons line e 0 k) at inv)
+module _ (name line : List ℕ) where
+  pub field-missing : pointwise eqb (take (length name) line) name ≡ false → field_in name line ≡ None
+  unfolding field_in
+  field-missing h = rw (name-missing name line h)
 
-    pub name-other : (get_or line e 0 ≡ get_or name i 0 → ⊥) → none ≡ w
-    unfolding behind
-    name-other ne = rw (ne_eqb (get_or name i 0) (get_or line e 0) (λ q. ne (sym q)), behind) at turn
-
-    pub name-more : get_or line e 0 ≡ get_or name i 0 → behind (drop (i + 1) name) (drop (e + 1) line) ≡ w
-    unfolding behind
-    name-more q = rw (eq-eqb (get_or name i 0) (get_or line e 0) (sym q), behind) at turn
-
--- what a name that was looked for says of the field
-module _ (line name : List ℕ) (at : ℕ) (p : Place) (r : rest_at line p ≡ behind name (drop at line)) where
-  pub field-missing : p ≡ Missing → none ≡ field_in name (drop at line)
-  unfolding rest_at field_in
-  field-missing q = rw (← r, q)
-
-  pub field-number : (e : ℕ) → p ≡ At e → number_in (drop e line) ≡ field_in name (drop at line)
-  unfolding rest_at field_in
-  field-number e q = rw (← r, q)
+  pub field-number : (rest : List ℕ) → pointwise eqb (take (length name) line) name ≡ true → rest ≡ drop (length name) line → field_in name line ≡ number_in rest
+  unfolding field_in
+  field-number rest h e = rw (name-found name line h, e)

@@ -1,78 +1,67 @@
--- The parser's answers against the calls of the rules.
-use mathlib.Core.Path.{◌≡◌, refl}
-use mathlib.Core.Logic.{⊎_elim}
+-- The numbers found, as the calls of the rules.
+use mathlib.Core.Path.{◌≡◌, refl, sym, ap, ◌∙◌}
 use mathlib.Core.List.{List, [], ◌∷◌}
-use mathlib.Core.Option.{Option, none, some}
-use Prim.Native.Nat.{ℕ}
+use Rattle.std.specs.Prelude.{Option, None, Some}
+use Prim.Native.Nat.{ℕ, suc}
 use native.Mathlib.Omega.{arith}
-use types.Run.{OneOf}
-use denote.Enum.Declared.{tag_of}
+use lib.ListN.{length, get_or}
 use Rattle.rules.specs.Plain.{and_then}
-use Rattle.rules.specs.Calls.{Call, format_call, post_call, strike_call, look_call, next_call}
-use Rattle.rules.specs.Bench.{two, three, four, or_try}
-use Rattle.line.specs.declared.Request.TheVariants.{Other}
-use Rattle.line.specs.declared.Pair.{Pair}
-use Rattle.line.specs.declared.Pair.TheVariants.{Both, Neither}
-use Rattle.line.specs.declared.Four.{Four}
-use Rattle.line.specs.declared.Four.TheVariants.{All, Not}
-use Rattle.line.specs.contracts.Request.{the_type}
-use Rattle.line.specs.Requests.{request_of, pair_of, four_of}
+use Rattle.rules.specs.Calls.{Call}
+use Rattle.rules.specs.Bench.{behind, digits, beyond, number, numbers, two, three, four, or_try}
+use Rattle.std.specs.Prelude.{Option as RustOption, None, Some, MatchOption}
+use Rattle.line.specs.declared.Request.{Request}
+use Rattle.line.specs.Requests.{asked}
+use Rattle.laws.proofs.Tools.{then-inv, none-some}
 
--- the call that a pair of numbers makes
-unfoldable pub call_of : (ℕ → ℕ → Call) → Pair → Option Call
-call_of f (Both a b) = some (f a b)
-call_of f Neither = none
+-- as many numbers as names
+numbers-count : (names : List (List ℕ)) (line xs : List ℕ) → numbers names line ≡ Some xs → length xs ≡ length names
+unfolding numbers
+numbers-count [] [] xs e = let q : [] ≡ xs = cc in ap length (sym q)
+numbers-count [] (y ∷ line) xs e = absurd (none-some e)
+numbers-count (name ∷ names) line xs e =
+    let named = then-inv (behind name line) _ xs e in
+    let numbered = then-inv (number (digits named.0)) _ xs named.2 in
+    let others = then-inv (numbers names (beyond named.0)) _ xs numbered.2 in
+    let q : numbered.0 ∷ others.0 ≡ xs = cc in
+    ap length (sym q) ∙ ap suc (numbers-count names (beyond named.0) others.0 others.1)
 
-pub two-of : (f : ℕ → ℕ → Call) (o : Option (List ℕ)) → and_then o (two f) ≡ call_of f (pair_of o)
-unfolding two pair_of call_of
-two-of f none = refl
-two-of f (some []) = refl
-two-of f (some (a ∷ [])) = refl
-two-of f (some (a ∷ b ∷ [])) = refl
-two-of f (some (a ∷ b ∷ c ∷ xs)) = refl
+two-found : (f : ℕ → ℕ → Call) (xs : List ℕ) → length xs ≡ 2 → Some (f (get_or xs 0 0) (get_or xs 1 0)) ≡ two f xs
+unfolding two
+two-found f [] h = absurd (omega arith)
+two-found f (a ∷ []) h = absurd (omega arith)
+two-found f (a ∷ b ∷ []) h = refl
+two-found f (a ∷ b ∷ c ∷ xs) h = absurd (omega arith)
 
--- four numbers: two, and the pair behind them
-unfoldable pub joined : ℕ → ℕ → Pair → Four
-joined x y (Both a b) = All x y a b
-joined x y Neither = Not
+four-found : (f : ℕ → ℕ → ℕ → ℕ → Call) (xs : List ℕ) → length xs ≡ 4
+    → Some (f (get_or xs 0 0) (get_or xs 1 0) (get_or xs 2 0) (get_or xs 3 0)) ≡ four f xs
+unfolding four three two
+four-found f [] h = absurd (omega arith)
+four-found f (a ∷ []) h = absurd (omega arith)
+four-found f (a ∷ b ∷ []) h = absurd (omega arith)
+four-found f (a ∷ b ∷ c ∷ []) h = absurd (omega arith)
+four-found f (a ∷ b ∷ c ∷ d ∷ []) h = refl
+four-found f (a ∷ b ∷ c ∷ d ∷ e ∷ xs) h = absurd (omega arith)
 
-pub four-joined : (x y : ℕ) (o : Option (List ℕ)) → four_of (and_then (and_then o (λ xs. some (y ∷ xs))) (λ xs. some (x ∷ xs))) ≡ joined x y (pair_of o)
-unfolding four_of pair_of joined
-four-joined x y none = refl
-four-joined x y (some []) = refl
-four-joined x y (some (a ∷ [])) = refl
-four-joined x y (some (a ∷ b ∷ [])) = refl
-four-joined x y (some (a ∷ b ∷ c ∷ xs)) = refl
+-- the numbers of a line, found or not, as the call that the line asks for
+module _ (names : List (List ℕ)) (line : List ℕ) where
+  pub two-made : (f : ℕ → ℕ → Call) (xs : List ℕ) → length names ≡ 2 → numbers names line ≡ Some xs
+      → Some (f (get_or xs 0 0) (get_or xs 1 0)) ≡ and_then (numbers names line) (two f)
+  two-made f xs h e = rw e (two-found f xs (numbers-count names line xs e ∙ h))
 
--- and the call they make
-unfoldable pub called_by : (ℕ → ℕ → ℕ → ℕ → Call) → Four → Option Call
-called_by f (All a b c d) = some (f a b c d)
-called_by f Not = none
+  pub four-made : (f : ℕ → ℕ → ℕ → ℕ → Call) (xs : List ℕ) → length names ≡ 4 → numbers names line ≡ Some xs
+      → Some (f (get_or xs 0 0) (get_or xs 1 0) (get_or xs 2 0) (get_or xs 3 0)) ≡ and_then (numbers names line) (four f)
+  four-made f xs h e = rw e (four-found f xs (numbers-count names line xs e ∙ h))
 
-pub four-of : (f : ℕ → ℕ → ℕ → ℕ → Call) (o : Option (List ℕ)) → and_then o (four f) ≡ called_by f (four_of o)
-unfolding four three two four_of called_by
-four-of f none = refl
-four-of f (some []) = refl
-four-of f (some (a ∷ [])) = refl
-four-of f (some (a ∷ b ∷ [])) = refl
-four-of f (some (a ∷ b ∷ c ∷ [])) = refl
-four-of f (some (a ∷ b ∷ c ∷ d ∷ [])) = refl
-four-of f (some (a ∷ b ∷ c ∷ d ∷ e ∷ xs)) = refl
+-- of two calls the first that is one
+pub tried : {P : Type 0} (a b : Option Call) (first r : RustOption Request) → asked first ≡ a → (P → asked r ≡ b)
+    → MatchOption first P (λ x. r ≡ Some x) → asked r ≡ or_try a b
+unfolding or_try
+tried a b None r e second h = rw (← e) (second h)
+tried a b (Some q) r e second h = rw (← e, h)
 
--- of two requests the first that is one
-pub request-first : (a b : Option Call) → OneOf (0 ∷ 1 ∷ 2 ∷ 3 ∷ 4 ∷ []) (tag_of the_type (request_of a)) → request_of a ≡ request_of (or_try a b)
-unfolding request_of or_try
-request-first (some k) b h = refl
-request-first none b h = absurd (other h)
-  where
-    other : OneOf (0 ∷ 1 ∷ 2 ∷ 3 ∷ 4 ∷ []) 5 → ⊥
-    other h = ⊎_elim (λ a. omega arith) (⊎_elim (λ a. omega arith) (⊎_elim (λ a. omega arith) (⊎_elim (λ a. omega arith) (λ a. omega arith)))) h
-
-pub request-next : (a b : Option Call) → request_of a ≡ Other → request_of b ≡ request_of (or_try a b)
-unfolding request_of or_try
-request-next none b q = refl
-request-next (some (format_call n m td ti)) b q = let z : ◌≡◌ {A = ℕ} 0 1 = cc in absurd (omega arith)
-request-next (some (post_call bib at status time)) b q = let z : ◌≡◌ {A = ℕ} 0 1 = cc in absurd (omega arith)
-request-next (some (strike_call bib at)) b q = let z : ◌≡◌ {A = ℕ} 0 1 = cc in absurd (omega arith)
-request-next (some (look_call bib at)) b q = let z : ◌≡◌ {A = ℕ} 0 1 = cc in absurd (omega arith)
-request-next (some (next_call bib at)) b q = let z : ◌≡◌ {A = ℕ} 0 1 = cc in absurd (omega arith)
+pub tried-order : (a b c d e : Option Call) → or_try (or_try (or_try (or_try a b) c) d) e ≡ or_try a (or_try b (or_try c (or_try d e)))
+unfolding or_try
+tried-order (Some k) b c d e = refl
+tried-order None (Some k) c d e = refl
+tried-order None None (Some k) d e = refl
+tried-order None None None d e = refl

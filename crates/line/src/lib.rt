@@ -1,227 +1,156 @@
 // The call that a line of the bench program asks for, its fields read one name and one number at a time.
 #![tactic(auto)]
 
-ghost use Rattle.std.specs.Prelude.{◌≡◌, ◌∷◌, [], ◌≤◌, length, drop};
-ghost use Rattle.rules.specs.Calls.{format_call, post_call};
+ghost use Rattle.std.specs.Prelude.{◌≡◌, [], length, MatchOption};
+ghost use Rattle.rules.specs.Calls.{format_call, post_call, strike_call, look_call, next_call};
 ghost use Rattle.rules.specs.Plain.{and_then};
-ghost use Rattle.rules.specs.Bench.{behind, numbers, format_names, post_names, four, parsed};
-ghost use Rattle.line.specs.Fields.{digit_in, number_in, run_on, field_in, rest_at, end_of, piece_at, last_of};
-ghost use Rattle.line.specs.Requests.{request_of, pair_of, four_of, other_call};
+ghost use Rattle.rules.specs.Bench.{digits, numbers, format_names, post_names, strike_names, look_names, next_names, two, four, parsed};
+ghost use Rattle.line.specs.Fields.{Begins, Reads, run_on, number_in, field_in, texts};
+ghost use Rattle.line.specs.Requests.{asked, Finds};
 
-// What a line asks for; `Other` where it is not of the grammar.
-#[derive(Clone, Copy)]
+// A call that a line asks for.
+#[derive(Clone, Copy, Debug, PartialEq, Eq)]
 pub enum Request {
-    Format(u32, u32, u32, u32),
-    Post(u32, u32, u32, u32),
-    Strike(u32, u32),
-    Look(u32, u32),
-    Next(u32, u32),
-    Other,
+    Format {
+        buckets: u32,
+        sectors: u32,
+        td: u32,
+        ti: u32,
+    },
+    Post {
+        bib: u32,
+        at: u32,
+        status: u32,
+        time: u32,
+    },
+    Strike {
+        bib: u32,
+        at: u32,
+    },
+    Look {
+        bib: u32,
+        at: u32,
+    },
+    Next {
+        bib: u32,
+        at: u32,
+    },
 }
 
-// Where a name that stands in a line ends.
-#[derive(Clone, Copy)]
-pub enum Place {
-    At(usize),
-    Missing,
-}
-
-// A number and where it ends.
-#[derive(Clone, Copy)]
-pub enum Taken {
-    Number(u32, usize),
-    Nothing,
-}
-
-#[derive(Clone, Copy)]
-pub enum Pair {
-    Both(u32, u32),
-    Neither,
-}
-
-#[derive(Clone, Copy)]
-pub enum Four {
-    All(u32, u32, u32, u32),
-    Not,
-}
-
-fn wide(x: u8) -> u64
-    ensures { result ≡ x }
+// The digit that begins the line, and what follows it.
+fn digit(line: &[u8]) -> Option<(u32, &[u8])>
+    ensures { MatchOption result (digits line.now ≡ []) (λ d. Begins line.now d.0 d.1.now) }
 {
-    x as u64
+    let (first, rest) = line.split_first()?;
+    let value = char::from(*first).to_digit(10)?;
+    Some((value, rest))
 }
 
-// Whether the name stands at this place of the line, and where it ends.
-fn after(line: &[u8], at: usize, name: &[u8]) -> Place
-    requires { at ≤ length line.now }
-    ensures { (rest_at line.now result ≡ behind name.now (drop at line.now)) × (end_of result ≤ length line.now) }
+// The number that the digits make, and what follows them. It is given up as soon as it is past 4294967295.
+fn run(line: &[u8]) -> Option<(u32, &[u8])>
+    ensures { Reads result (run_on 0 line.now) }
 {
-    let mut i: usize = 0;
-    let mut e = at;
-    while i < name.len() {
-        if e == line.len() {
-            return Place::Missing;
-        }
-        if line[e] != name[i] {
-            return Place::Missing;
-        }
-        i += 1;
-        e += 1;
+    let mut value: u32 = 0;
+    let mut rest = line;
+    while let Some((next, after)) = digit(rest) {
+        let tens = value.checked_mul(10)?;
+        value = tens.checked_add(next)?;
+        rest = after;
     }
-    Place::At(e)
+    Some((value, rest))
 }
 
-fn digit_at(line: &[u8], at: usize) -> bool
-    requires { at ≤ length line.now }
-    ensures { result ≡ digit_in (drop at line.now) }
+// A plain decimal at the line's start, and what follows it: 0 stands alone.
+fn number(line: &[u8]) -> Option<(u32, &[u8])>
+    ensures { Reads result (number_in line.now) }
 {
-    if at == line.len() {
-        return false;
-    }
-    let d = line[at];
-    if d < 48 {
-        return false;
-    }
-    d <= 57
+    let (first, rest) = digit(line)?;
+    let zero = first == 0;
+    let leading_zero = zero && digit(rest).is_some();
+    if leading_zero { None } else { run(line) }
 }
 
-// A number that does not start with 0. It ends at the first byte that is no digit, or as soon as it is past 4294967295.
-fn run(line: &[u8], at: usize) -> Taken
-    requires { at ≤ length line.now }
-    ensures { (piece_at line.now result ≡ run_on 0 (drop at line.now)) × (last_of result ≤ length line.now) }
+// The number behind this name, and what follows it.
+fn field<'a>(line: &'a [u8], name: &[u8]) -> Option<(u32, &'a [u8])>
+    ensures { Reads result (field_in name.now line.now) }
 {
-    let mut value: u64 = 0;
-    let mut i = at;
-    while digit_at(line, i) {
-        let next = value * 10 + (wide(line[i]) - 48);
-        let too_large = 4294967295 < next;
-        if too_large {
-            return Taken::Nothing;
-        }
-        value = next;
-        i += 1;
-    }
-    Taken::Number(value as u32, i)
+    number(line.strip_prefix(name)?)
 }
 
-// A plain decimal at this place: 0 stands alone.
-fn number(line: &[u8], at: usize) -> Taken
-    requires { at ≤ length line.now }
-    ensures { (piece_at line.now result ≡ number_in (drop at line.now)) × (last_of result ≤ length line.now) }
+// The numbers behind these names, one field after the other and nothing behind the last.
+fn numbers<const N: usize>(line: &[u8], names: &[&[u8]]) -> Option<[u32; N]>
+    requires { length names.now ≡ N }
+    ensures { Finds result (numbers (texts names.now) line.now) }
 {
-    if !digit_at(line, at) {
-        return Taken::Nothing;
+    let mut found = [0; N];
+    let mut rest = line;
+    for (i, name) in names.iter().enumerate() {
+        let (value, after) = field(rest, name)?;
+        found[i] = value;
+        rest = after;
     }
-    let nonzero = line[at] != 48;
-    if nonzero {
-        return run(line, at);
-    }
-    if digit_at(line, at + 1) {
-        return Taken::Nothing;
-    }
-    Taken::Number(0, at + 1)
+    rest.is_empty().then_some(found)
 }
 
-// A name at this place and its number.
-fn field(line: &[u8], at: usize, name: &[u8]) -> Taken
-    requires { at ≤ length line.now }
-    ensures { (piece_at line.now result ≡ field_in name.now (drop at line.now)) × (last_of result ≤ length line.now) }
+// The grammar's rows have a function each: what they share is `numbers`.
+fn format_line(line: &[u8]) -> Option<Request>
+    ensures { asked result ≡ and_then (numbers format_names line.now) (four format_call) }
 {
-    let p = after(line, at, name);
-    match p {
-        Place::Missing => Taken::Nothing,
-        Place::At(e) => number(line, e),
-    }
+    let [buckets, sectors, td, ti] = numbers::<4>(
+        line,
+        &[b"op=format buckets=", b" sectors=", b" td=", b" ti="],
+    )?;
+    Some(Request::Format {
+        buckets,
+        sectors,
+        td,
+        ti,
+    })
 }
 
-// Two names with their numbers from this place on, and the end of the line.
-fn pair_at(line: &[u8], at: usize, first: &[u8], second: &[u8]) -> Pair
-    requires { at ≤ length line.now }
-    ensures { result ≡ pair_of (numbers (first.now ∷ second.now ∷ []) (drop at line.now)) }
+fn post_line(line: &[u8]) -> Option<Request>
+    ensures { asked result ≡ and_then (numbers post_names line.now) (four post_call) }
 {
-    let f = field(line, at, first);
-    let Taken::Number(a, e) = f else {
-        return Pair::Neither;
-    };
-    let s = field(line, e, second);
-    let Taken::Number(b, end) = s else {
-        return Pair::Neither;
-    };
-    if end != line.len() {
-        return Pair::Neither;
-    }
-    Pair::Both(a, b)
+    let [bib, at, status, time] = numbers::<4>(
+        line,
+        &[b"op=post bib=", b" at=", b" status=", b" time="],
+    )?;
+    Some(Request::Post {
+        bib,
+        at,
+        status,
+        time,
+    })
 }
 
-// Four names with their numbers, from the start of the line to its end.
-fn four_at(line: &[u8], first: &[u8], second: &[u8], third: &[u8], fourth: &[u8]) -> Four
-    ensures { result ≡ four_of (numbers (first.now ∷ second.now ∷ third.now ∷ fourth.now ∷ []) line.now) }
+fn strike_line(line: &[u8]) -> Option<Request>
+    ensures { asked result ≡ and_then (numbers strike_names line.now) (two strike_call) }
 {
-    let f = field(line, 0, first);
-    let Taken::Number(a, e) = f else {
-        return Four::Not;
-    };
-    let s = field(line, e, second);
-    let Taken::Number(b, i) = s else {
-        return Four::Not;
-    };
-    let p = pair_at(line, i, third, fourth);
-    let Pair::Both(c, d) = p else {
-        return Four::Not;
-    };
-    Four::All(a, b, c, d)
+    let [bib, at] = numbers::<2>(line, &[b"op=strike bib=", b" at="])?;
+    Some(Request::Strike { bib, at })
 }
 
-fn format_line(line: &[u8]) -> Request
-    ensures { result ≡ request_of (and_then (numbers format_names line.now) (four format_call)) }
+fn look_line(line: &[u8]) -> Option<Request>
+    ensures { asked result ≡ and_then (numbers look_names line.now) (two look_call) }
 {
-    let f = four_at(line, b"op=format buckets=", b" sectors=", b" td=", b" ti=");
-    let Four::All(buckets, sectors, td, ti) = f else {
-        return Request::Other;
-    };
-    Request::Format(buckets, sectors, td, ti)
+    let [bib, at] = numbers::<2>(line, &[b"op=look bib=", b" at="])?;
+    Some(Request::Look { bib, at })
 }
 
-fn post_line(line: &[u8]) -> Request
-    ensures { result ≡ request_of (and_then (numbers post_names line.now) (four post_call)) }
+fn next_line(line: &[u8]) -> Option<Request>
+    ensures { asked result ≡ and_then (numbers next_names line.now) (two next_call) }
 {
-    let f = four_at(line, b"op=post bib=", b" at=", b" status=", b" time=");
-    let Four::All(bib, at, status, time) = f else {
-        return Request::Other;
-    };
-    Request::Post(bib, at, status, time)
+    let [bib, at] = numbers::<2>(line, &[b"op=next bib=", b" at="])?;
+    Some(Request::Next { bib, at })
 }
 
-// The calls that have a bib and a stamp.
-fn other_line(line: &[u8]) -> Request
-    ensures { result ≡ request_of (other_call line.now) }
+// What the line asks for, if it is of the grammar.
+pub fn parse(line: &[u8]) -> Option<Request>
+    ensures { asked result ≡ parsed line.now }
 {
-    let s = pair_at(line, 0, b"op=strike bib=", b" at=");
-    if let Pair::Both(bib, at) = s {
-        return Request::Strike(bib, at);
-    }
-    let l = pair_at(line, 0, b"op=look bib=", b" at=");
-    if let Pair::Both(bib, at) = l {
-        return Request::Look(bib, at);
-    }
-    let n = pair_at(line, 0, b"op=next bib=", b" at=");
-    if let Pair::Both(bib, at) = n {
-        return Request::Next(bib, at);
-    }
-    Request::Other
-}
-
-// What the line asks for. A line of another op is left at the first byte that differs.
-pub fn parse(line: &[u8]) -> Request
-    ensures { result ≡ request_of (parsed line.now) }
-{
-    let f = format_line(line);
-    let Request::Other = f else {
-        return f;
-    };
-    let p = post_line(line);
-    let Request::Other = p else {
-        return p;
-    };
-    other_line(line)
+    format_line(line)
+        .or_else(|| post_line(line))
+        .or_else(|| strike_line(line))
+        .or_else(|| look_line(line))
+        .or_else(|| next_line(line))
 }

@@ -1,5 +1,5 @@
 -- The least key above x by its rank, and the lesser of two that were found.
-use mathlib.Core.Path.{◌≡◌, refl, ap, sym, ◌∙◌}
+use mathlib.Core.Path.{◌≡◌, refl}
 use mathlib.Core.Bool.{Bool, true, false}
 use mathlib.Core.List.{List}
 use Prim.Native.Nat.{ℕ, suc, ◌+◌, ◌*◌, ◌-◌, ◌≤◌, ◌<◌, ◌%◌, max}
@@ -7,24 +7,13 @@ use native.Mathlib.Numerals.{add-one}
 use native.Mathlib.Omega.{arith}
 use lib.Dec.{leb, ltb}
 use borrow.Author.Tests.{leb-true, leb-false}
+use Rattle.std.specs.Prelude.{Option, Some}
 use Rattle.rules.specs.declared.Entry.{Entry}
 use Rattle.rules.specs.Plain.{if}
 use Rattle.rules.specs.Sector.{sector_at, fields}
-use Rattle.scan.specs.declared.Found.{Found}
-use Rattle.scan.specs.declared.Found.TheVariants.{Damage, Nothing, Hit}
-use Rattle.scan.specs.Next.{under, above, above_at, lower}
+use Rattle.scan.specs.Next.{under, above, above_at}
 use Rattle.bucket.specs.Places.{found_at}
-use Rattle.next.specs.Ranks.{beats, rank_above}
-
-under-beats : (best : Found) (e : Entry) → under best e ≡ if (beats best e) (Hit e) best
-unfolding under beats
-under-beats Damage e = refl
-under-beats Nothing e = refl
-under-beats (Hit o) e = refl
-
-pub lower-hit : (up : Found) (e : Entry) (b : Bool) → beats up e ≡ b → if b (Hit e) up ≡ lower up (Hit e)
-unfolding lower
-lower-hit up e b q = sym (under-beats up e ∙ ap (λ (c : Bool). if c (Hit e) up) q)
+use Rattle.next.specs.Ranks.{rank_above}
 
 -- the rank of the entry at a place: 0 for none, which is place 0
 pub data Ranked (part : List ℕ) : ℕ → ℕ → Type 0 where
@@ -32,14 +21,14 @@ pub data Ranked (part : List ℕ) : ℕ → ℕ → Type 0 where
   ranked : (i : ℕ) → (fields (sector_at part i)).key ≤ 4294967295 → Ranked part (suc i) (64 * (4294967295 - (fields (sector_at part i)).key) + suc i)
 
 -- what the best becomes: its place h, its rank, its entry
-abbrev pub Best : List ℕ → ℕ → ℕ → Found → Type 0
+abbrev pub Best : List ℕ → ℕ → ℕ → Option Entry → Type 0
 Best part most b f = (h : ℕ) × (h ≤ most) × Ranked part h b × (f ≡ found_at part h)
 
 module _ (part : List ℕ) (i x t : ℕ) (few : i < 32) (fits : (fields (sector_at part i)).key ≤ 4294967295) where
   abbrev e : Entry
   e = fields (sector_at part i)
 
-  here : Best part (i + 1) (64 * (4294967295 - e.key) + (i + 1)) (Hit e)
+  here : Best part (i + 1) (64 * (4294967295 - e.key) + (i + 1)) (Some e)
   unfolding found_at
   here = rw add-one (suc i, omega arith, ranked i fits, refl)
 
@@ -49,7 +38,7 @@ module _ (part : List ℕ) (i x t : ℕ) (few : i < 32) (fits : (fields (sector_
   nearer h b le (ranked j k) = go (leb e.key (fields (sector_at part j)).key) refl
     where
       go : (c : Bool) → leb e.key (fields (sector_at part j)).key ≡ c
-          → Best part (i + 1) (max (64 * (4294967295 - (fields (sector_at part j)).key) + suc j) (64 * (4294967295 - e.key) + (i + 1))) (if c (Hit e) (Hit (fields (sector_at part j))))
+          → Best part (i + 1) (max (64 * (4294967295 - (fields (sector_at part j)).key) + suc j) (64 * (4294967295 - e.key) + (i + 1))) (if c (Some e) (Some (fields (sector_at part j))))
       go true q = let near = leb-true e.key (fields (sector_at part j)).key q in let top : max (64 * (4294967295 - (fields (sector_at part j)).key) + suc j) (64 * (4294967295 - e.key) + (i + 1)) ≡ 64 * (4294967295 - e.key) + (i + 1) = omega arith in rw top here
       go false q = let far = leb-false e.key (fields (sector_at part j)).key q in let top : max (64 * (4294967295 - (fields (sector_at part j)).key) + suc j) (64 * (4294967295 - e.key) + (i + 1)) ≡ 64 * (4294967295 - (fields (sector_at part j)).key) + suc j = omega arith in rw top (suc j, omega arith, ranked j k, refl)
 

@@ -1,73 +1,59 @@
 // The smallest standing bib above a given one, as of a stamp.
 #![tactic(auto)]
 
-ghost use Rattle.std.specs.Prelude.{◌≡◌, ◌≤◌, true};
+ghost use Rattle.std.specs.Prelude.{◌≡◌, ◌≤◌, true, None, Ok};
 ghost use Rattle.rules.specs.Sector.{is_index, is_data};
-ghost use Rattle.rules.specs.Answers.{answer, ended};
+ghost use Rattle.rules.specs.Answers.{answer};
 ghost use Rattle.rules.specs.Next.{next};
 ghost use Rattle.scan.specs.Scan.{sectors, search_log};
 ghost use Rattle.scan.specs.Next.{pick_up, weigh, runs, stand_in, sectors_of, leg_of, leg_scan, rounds};
-ghost use Rattle.bucket.specs.Shapes.{Shape};
+ghost use Rattle.next.specs.Found.{told, Above};
 
 mod asks;
 pub mod picks;
 
-use rules::{Answer, Entry, Head};
-use scan::{Found, Leg, Way};
-use walk::Layout;
+use bucket::Card;
+use rules::{Answer, Damage, Entry, Refusal};
+use scan::{Leg, Way};
 
 // The least index key above x, with bucket b's, which was searched.
-fn key_above(card: &[u8], head: Head, b: u32, x: u32, t: u32, up: Found) -> Found
-    requires shape { Shape head card.now }
-    requires le_b { (1 ≤ b) × (b ≤ head.n) × (runs is_index (sectors_of head card.now b) ≡ true) }
-    ensures { result ≡ weigh (pick_up x t) (sectors_of head card.now b) up }
+fn key_above(card: &Card, b: u32, x: u32, t: u32, up: Option<Entry>) -> Option<Entry>
+    requires { (1 ≤ b) × (b ≤ card.now.head.n) × (runs is_index (sectors_of card.now.head card.now.bytes.now b) ≡ true) }
+    ensures { result ≡ weigh (pick_up x t) (sectors_of card.now.head card.now.bytes.now b) up }
 {
-    let part = bucket::bucket_part(card, head, b);
-    asks::least_above(part, head.n, head.m, x, t, up)
+    asks::least_above(card.bucket(b), card.head.n, card.head.m, x, t, up)
 }
 
 // Where a walk ends, in the data bucket b, which was searched: the bib that is next, or the index key to walk to.
-fn arrive(card: &[u8], head: Head, b: u32, k: u32, t: u32, up: Found) -> Leg
-    requires shape { Shape head card.now }
-    requires le_b { (1 ≤ b) × (b ≤ head.n) × (runs is_data (sectors_of head card.now b) ≡ true) }
-    ensures { result ≡ leg_of (stand_in k t (sectors_of head card.now b) Found.Nothing) up }
+fn arrive(card: &Card, b: u32, k: u32, t: u32, up: Option<Entry>) -> Leg
+    requires { (1 ≤ b) × (b ≤ card.now.head.n) × (runs is_data (sectors_of card.now.head card.now.bytes.now b) ≡ true) }
+    ensures { result ≡ leg_of (stand_in k t (sectors_of card.now.head card.now.bytes.now b) None) up }
 {
-    let part = bucket::bucket_part(card, head, b);
-    let found = asks::standing(part, head.n, head.m, k, t);
-    let Found::Hit(e) = found else {
-        return Leg::Over(up);
-    };
-    Leg::Stand(e)
+    match asks::standing(card.bucket(b), card.head.n, card.head.m, k, t) {
+        Some(e) => Leg::Stand(e),
+        None => Leg::Over(up),
+    }
 }
 
 // One walk to x, which gathers the least index key above x on its way.
-fn walk_to(card: &[u8], head: Head, root: u32, k: u32, x: u32, t: u32) -> Leg
-    requires shape { Shape head card.now }
-    requires le_root { (1 ≤ root) × (root ≤ head.n) }
-    ensures { result ≡ leg_scan head card.now k x t head.n Found.Nothing root 0 }
+fn walk_to(card: &Card, root: u32, k: u32, x: u32, t: u32) -> Result<Leg, Damage>
+    requires { (1 ≤ root) × (root ≤ card.now.head.n) }
+    ensures { result ≡ leg_scan card.now.head card.now.bytes.now k x t card.now.head.n None root 0 }
 {
-    let n = head.n as u32;
     let mut b = root;
-    let mut header: u32 = 0;
-    let mut reads: u32 = 0;
-    let mut up = Found::Nothing;
-    loop {
-        if reads == n {
-            return Leg::Gone;
-        }
-        let way = bucket::search(card, head, b, header, x, t);
-        reads += 1;
-        match way {
-            Way::Lost => return Leg::Gone,
+    let mut header = 0;
+    let mut up = None;
+    for reads in 0..card.head.n {
+        match card.search(b, header, x, t)? {
             Way::Down(e) => {
-                up = key_above(card, head, b, x, t, up);
+                up = key_above(card, b, x, t, up);
                 b = e.value;
                 header = e.key;
             }
-            Way::Absent => return arrive(card, head, b, k, t, up),
-            Way::Copy(_) => return arrive(card, head, b, k, t, up),
+            Way::End(_) => return Ok(arrive(card, b, k, t, up)),
         }
     }
+    Err(Damage)
 }
 
 pub fn given(e: Entry) -> Answer
@@ -83,55 +69,48 @@ pub fn given(e: Entry) -> Answer
     }
 }
 
-pub fn at_end() -> Answer
-    ensures { result ≡ ended }
+// What C is told: the record, the end, or the refusal's number.
+#[tactic(auto, unfolding(crate::specs::Found::told))]
+fn told(found: Result<Option<Entry>, Refusal>) -> Answer
+    ensures { result ≡ told found }
 {
-    Answer {
-        code: 0,
-        bib: 0,
-        at: 0,
-        status: 0,
-        time: 0,
-        reads: 0,
+    match found {
+        Ok(Some(e)) => given(e),
+        Ok(None) => Answer::end(),
+        Err(r) => Answer::from(r),
     }
 }
 
 // Walk after walk, each to the least index key above the last, until one gives a bib or no key. The log is read once, before.
-fn walk_on(card: &[u8], head: Head, root: Entry, k: u32, t: u32) -> Answer
-    requires shape { Shape head card.now }
-    requires n_value { search_log t (sectors head.n card.now 1 head.n) ≡ Found.Hit root }
-    ensures { result ≡ rounds head card.now k t 4294967296 k }
+fn walk_on(card: &Card, root: Entry, k: u32, t: u32) -> Result<Option<Entry>, Refusal>
+    requires { search_log t (sectors card.now.head.n card.now.bytes.now 1 card.now.head.n) ≡ Ok root }
+    ensures answer { told result ≡ rounds card.now.head card.now.bytes.now k t 4294967296 k }
+    ensures above { Above k result }
 {
     let mut x = k;
     loop {
-        let leg = walk_to(card, head, root.value, k, x, t);
-        match leg {
-            Leg::Gone => return walk::refusal(4),
-            Leg::Stand(e) => return given(e),
-            Leg::Over(up) => {
-                let Found::Hit(e) = up else {
-                    return at_end();
-                };
-                x = picks::key_of(e);
-            }
+        match walk_to(card, root.value, k, x, t)? {
+            Leg::Stand(e) => return Ok(Some(e)),
+            Leg::Over(Some(e)) => x = e.key,
+            Leg::Over(None) => return Ok(None),
         }
     }
+}
+
+// The post of the next standing bib above `bib` as of `at`, none at the end.
+pub fn following(card: &[u8], bib: u32, at: u32) -> Result<Option<Entry>, Refusal>
+    ensures answer { told result ≡ next card.now bib at }
+    ensures above { Above bib result }
+{
+    let card = walk::head::read(card)?;
+    card.as_of(at)?;
+    let root = card.root_at(at)?;
+    walk_on(&card, root, bib, at)
 }
 
 // The next standing bib above `bib` as of `at`, or the end.
 pub fn next(card: &[u8], bib: u32, at: u32) -> Answer
     ensures { result ≡ next card.now bib at }
 {
-    let layout = walk::head::read_head(card);
-    let Layout::Sound(head) = layout else {
-        return walk::refusal(1);
-    };
-    if at < walk::head::beginning(card) {
-        return walk::refusal(13);
-    }
-    let found = bucket::find_root(card, head, at);
-    let Found::Hit(root) = found else {
-        return walk::refusal(4);
-    };
-    walk_on(card, head, root, bib, at)
+    told(following(card, bib, at))
 }

@@ -1,112 +1,57 @@
 // A time as the panel's digits, or the refusal that keeps a wrong one dark.
 #![tactic(auto)]
 
-ghost use Rattle.std.specs.Prelude.{◌≡◌, false, ◌∷◌, [], ◌++◌, leb};
-ghost use Rattle.rules.specs.Panel.{hundredths, panel, panel_of, shown, seconds, minute, ten_minutes};
+ghost use Rattle.std.specs.Prelude.{◌≡◌, ◌<◌, ◌/◌, ◌%◌, true, false, [], MatchResult};
+ghost use Rattle.rules.specs.Panel.{hundredths, panel, panel_of, shown};
 
-use rules::Digits;
+use rules::{Digits, Refusal};
 
-// The one answer for a field the panel lacks and for a time that does not fit.
-fn refusal() -> Digits
-    ensures { result ≡ shown false [] }
+fn digit(h: u32, worth: u32) -> u8
+    requires { 0 < worth }
+    ensures { result ≡ h / worth % 10 }
 {
-    Digits {
-        code: 7,
-        places: [0, 0, 0, 0, 0, 0],
-    }
+    (h / worth % 10) as u8
 }
 
-// Up to 59.99.
-fn four(h: u32) -> Digits
-    ensures { result ≡ shown (leb h 5999) (seconds h ++ (0 ∷ 0 ∷ [])) }
+// The places of a time in hundredths, highest digit first: four are seconds and hundredths, up to 59.99, five add a minute, up to 9:59.99,
+// six another, up to 99:59.99; those past the field are 0. The one refusal is for a field the panel lacks and for a time that does not fit.
+#[tactic(auto, unfolding(rules::specs::Panel::panel_of, rules::specs::Panel::shown, rules::specs::Panel::seconds, rules::specs::Panel::minute, rules::specs::Panel::ten_minutes))]
+fn places(h: u32, field: u32) -> Result<[u8; 6], Refusal>
+    ensures { MatchResult result (λ places. panel_of h field ≡ shown true places) (λ r. (r ≡ Refusal.Panel) × (panel_of h field ≡ shown false [])) }
 {
-    if 5999 < h {
-        return refusal();
+    let ten_minutes = digit(h, 60000);
+    let minute = digit(h, 6000);
+    let ten_seconds = digit(h % 6000, 1000);
+    let second = digit(h, 100);
+    let tenth = digit(h, 10);
+    let hundredth = digit(h, 1);
+    match field {
+        4 if h <= 5999 => Ok([ten_seconds, second, tenth, hundredth, 0, 0]),
+        5 if h <= 59999 => Ok([minute, ten_seconds, second, tenth, hundredth, 0]),
+        6 if h <= 599999 => Ok([ten_minutes, minute, ten_seconds, second, tenth, hundredth]),
+        _ => Err(Refusal::Panel),
     }
-    Digits {
-        code: 0,
-        places: [
-            (h % 6000 / 1000) as u8,
-            (h / 100 % 10) as u8,
-            (h / 10 % 10) as u8,
-            (h % 10) as u8,
-            0,
-            0,
-        ],
-    }
-}
-
-// Up to 9:59.99.
-fn five(h: u32) -> Digits
-    ensures { result ≡ shown (leb h 59999) (minute h ∷ seconds h ++ (0 ∷ [])) }
-{
-    if 59999 < h {
-        return refusal();
-    }
-    Digits {
-        code: 0,
-        places: [
-            (h / 6000 % 10) as u8,
-            (h % 6000 / 1000) as u8,
-            (h / 100 % 10) as u8,
-            (h / 10 % 10) as u8,
-            (h % 10) as u8,
-            0,
-        ],
-    }
-}
-
-// Up to 99:59.99.
-fn six(h: u32) -> Digits
-    ensures { result ≡ shown (leb h 599999) (ten_minutes h ∷ minute h ∷ seconds h) }
-{
-    if 599999 < h {
-        return refusal();
-    }
-    Digits {
-        code: 0,
-        places: [
-            (h / 60000 % 10) as u8,
-            (h / 6000 % 10) as u8,
-            (h % 6000 / 1000) as u8,
-            (h / 100 % 10) as u8,
-            (h / 10 % 10) as u8,
-            (h % 10) as u8,
-        ],
-    }
-}
-
-// The digits of a time in hundredths.
-fn of_hundredths(h: u32, field: u32) -> Digits
-    ensures { result ≡ panel_of h field }
-{
-    if field == 4 {
-        return four(h);
-    }
-    if field == 5 {
-        return five(h);
-    }
-    if field == 6 {
-        return six(h);
-    }
-    refusal()
 }
 
 // The hundredths that a time in thousandths is shown as: the next longer unless it is whole.
+#[tactic(auto, unfolding(rules::specs::Panel::hundredths))]
 fn hundredths(time: u32) -> u32
     ensures { result ≡ hundredths time }
 {
-    if time % 10 == 0 {
-        return time / 10;
-    }
-    time / 10 + 1
+    time.div_ceil(10)
 }
 
 // A time in thousandths as the digits of a field: the number and six places, highest digit first. A field's limit is
 // judged after the rounding.
+#[tactic(auto, unfolding(rules::specs::Panel::panel, rules::specs::Panel::shown))]
 pub fn digits(time: u32, field: u32) -> Digits
     ensures { result ≡ panel time field }
 {
-    let h = hundredths(time);
-    of_hundredths(h, field)
+    match places(hundredths(time), field) {
+        Ok(places) => Digits { code: 0, places },
+        Err(refusal) => Digits {
+            code: refusal.number(),
+            places: [0; 6],
+        },
+    }
 }

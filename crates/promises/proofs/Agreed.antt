@@ -2,7 +2,7 @@
 use mathlib.Core.Path.{◌≡◌, refl, sym, ap, subst, ◌∙◌}
 use mathlib.Core.Logic.{◌⊎◌, inl, inr, ⊎_elim}
 use mathlib.Core.Bool.{true, not}
-use mathlib.Core.Option.{Option, none, some}
+use Rattle.std.specs.Prelude.{Option, None, Some}
 use mathlib.Core.List.{List, [], ◌∷◌, ◌++◌}
 use Prim.Native.Nat.{ℕ, ◌/◌, ◌≤◌, ◌<◌}
 use native.Mathlib.Omega.{arith}
@@ -50,13 +50,13 @@ readless-refused x = refl
 
 readless-sheet : (bib reads : ℕ) (o : Option Entry) → readless (sheet bib reads o) ≡ sheet bib 0 o
 unfolding readless sheet
-readless-sheet bib reads none = refl
-readless-sheet bib reads (some e) = refl
+readless-sheet bib reads None = refl
+readless-sheet bib reads (Some e) = refl
 
 readless-given : (o : Option Entry) → readless (given o) ≡ given o
 unfolding readless ended
-readless-given none = refl
-readless-given (some e) = refl
+readless-given None = refl
+readless-given (Some e) = refl
 
 -- what the next calls are answered with, once both have the same entries
 abbrev OnBoth : List ℕ → List Ask → Type 0

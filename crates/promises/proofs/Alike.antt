@@ -1,5 +1,5 @@
 -- Two cards begun alike whose accepted entries agree up to t answer alike as of t.
-use mathlib.Core.Option.{Option, some}
+use Rattle.std.specs.Prelude.{Option, Some}
 use Prim.Native.Nat.{ℕ, ◌≤◌, ◌<◌}
 use mathlib.Core.Path.{refl, sym, ap, subst, ◌∙◌, ◌≡◌}
 use mathlib.Core.Logic.{⊎_elim}
@@ -44,7 +44,7 @@ same-card c (e ∷ es) d b p q =
 
 -- every walk as of t meets the same buckets, with the same entries up to t
 abbrev SameWalks : Head → ℕ → List ℕ → List ℕ → Type 0
-SameWalks h t c d = (x : ℕ) → x < 4294967296 → (p : List Visit) × (q : List Visit) × (walk h c t x ≡ some p) × (walk h d t x ≡ some q) × Alike t p q
+SameWalks h t c d = (x : ℕ) → x < 4294967296 → (p : List Visit) × (q : List Visit) × (walk h c t x ≡ Some p) × (walk h d t x ≡ Some q) × Alike t p q
 
 same_walks : (h : Head) (c : List ℕ) (g : ℕ → ℕ → Option Entry) (begin s : ℕ) → Keeps h c g begin s → (t : ℕ) → begin ≤ t → (d : List ℕ) → c ≡ d
     → SameWalks h t c d
@@ -90,8 +90,8 @@ replay h c g begin s ke t le (e ∷ es) d q =
     (c, subst (λ z. Since c z c) (sym (left-past t (e ∷ es) past)) refl, late-walks h c g begin s ke t le (e ∷ es) d q past))
     (le-or-lt e.stamp t)
 
-look-alike : (h : Head) (c d : List ℕ) → head_of c ≡ some h → head_of d ≡ some h → beginning c ≡ beginning d → (t x : ℕ) (p q : List Visit) → walk h c t x ≡ some p
-    → walk h d t x ≡ some q
+look-alike : (h : Head) (c d : List ℕ) → head_of c ≡ Some h → head_of d ≡ Some h → beginning c ≡ beginning d → (t x : ℕ) (p q : List Visit) → walk h c t x ≡ Some p
+    → walk h d t x ≡ Some q
     → length p ≡ length q → left t (data_of p) ≡ left t (data_of q) → look c x t ≡ look d x t
 unfolding look look_in look_on stands_on
 look-alike h c d hc hd begins t x p q wp wq l e = rw (hc, hd, begins, wp, wq, l, e)

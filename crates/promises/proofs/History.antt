@@ -2,7 +2,7 @@
 use mathlib.Core.Path.{◌≡◌, refl, ap, sym, ◌∙◌, subst}
 use mathlib.Core.Logic.{◌⊎◌, inl, inr, ⊎_elim}
 use mathlib.Core.Bool.{Bool, true, false}
-use mathlib.Core.Option.{Option, none, some}
+use Rattle.std.specs.Prelude.{Option, None, Some}
 use Prim.Native.Nat.{ℕ, zero, suc, ◌+◌, ◌*◌, ◌/◌, ◌≤◌, ◌<◌}
 use native.Mathlib.Omega.{arith}
 use mathlib.Core.List.{List, [], ◌∷◌, ◌++◌}
@@ -49,7 +49,7 @@ not_root d (inr i) =
     (λ (n : d.kind ≡ 4 → ⊥). ne_eqb d.kind 4 n)
     (eq-or-ne d.kind 4)
 
-known-entries : (h : Head) (es : List Entry) (c : List ℕ) → OnlyKnown h es c → (i k : ℕ) → 1 + h.n ≤ i → (xs : List Entry) × (entries h.n c i k ≡ some xs)
+known-entries : (h : Head) (es : List Entry) (c : List ℕ) → OnlyKnown h es c → (i k : ℕ) → 1 + h.n ≤ i → (xs : List Entry) × (entries h.n c i k ≡ Some xs)
 unfolding entries join
 known-entries h es c f i zero lo = ([], refl)
 known-entries h es c f i (suc k) lo =
@@ -63,7 +63,7 @@ known-entries h es c f i (suc k) lo =
 
 -- what passes a test that only posts and strikes pass, and not the dummy, is what was accepted
 pub known-said : (q : Entry → Bool) → q dummy ≡ false → ((d : Entry) → q d ≡ true → is_data d ≡ true) → (h : Head) (es : List Entry) (s : ℕ) (c : List ℕ)
-    → Known h es s c → Up (only q es) → (xs : List Entry) × (area h c ≡ some xs) × (by_stamp (only q xs) ≡ only q es)
+    → Known h es s c → Up (only q es) → (xs : List Entry) × (area h c ≡ Some xs) × (by_stamp (only q xs) ≡ only q es)
 unfolding area
 known-said q qd qi h es s c kn up =
     let a = known-entries h es c kn.known (1 + h.n) (h.n * h.m) (omega arith) in
@@ -134,8 +134,8 @@ fits-or-not places es =
     (λ (lt : places < length es). inr (lt, rw (lt-leb (length es) places lt)))
     (le-or-lt (length es) places)
 
-history-is : (card : List ℕ) (h : Head) (begin bib t places : ℕ) (xs : List Entry) → head_of card ≡ some h → 1 ≤ bib → beginning card ≡ begin → begin ≤ t
-    → area h card ≡ some xs → history card bib t places ≡ fitting places (by_stamp (only (says_of bib t) xs))
+history-is : (card : List ℕ) (h : Head) (begin bib t places : ℕ) (xs : List Entry) → head_of card ≡ Some h → 1 ≤ bib → beginning card ≡ begin → begin ≤ t
+    → area h card ≡ Some xs → history card bib t places ≡ fitting places (by_stamp (only (says_of bib t) xs))
 unfolding history history_in history_on
 history-is card h begin bib t places xs hq lo bq le aq = rw (hq, ne_eqb bib 0 (λ z. omega arith), bq, le-ltb t begin le, aq)
 
@@ -195,7 +195,7 @@ since-up h c g begin s ke (e ∷ es) d q =
 
 -- every accepted entry, read off a card that began with a format
 pub calls-said : (h : Head) (card : List ℕ) → Formatted h card → (calls : List Act) → AllSized calls
-    → (xs : List Entry) × (area h (card_after card calls) ≡ some xs) × (by_stamp (only any_bib xs) ≡ accepted card calls)
+    → (xs : List Entry) × (area h (card_after card calls) ≡ Some xs) × (by_stamp (only any_bib xs) ≡ accepted card calls)
 calls-said h card f calls s =
     let es = accepted card calls in
     let new = card_after card calls in
@@ -207,7 +207,7 @@ calls-said h card f calls s =
     let a = known-said any_bib any-dummy any-data h es kn.0 new kn.1 up in
     (a.0, a.1, a.2 ∙ every)
 
-formatted-after : (h : Head) (card : List ℕ) → Formatted h card → (calls : List Act) → AllSized calls → head_of (card_after card calls) ≡ some h
+formatted-after : (h : Head) (card : List ℕ) → Formatted h card → (calls : List Act) → AllSized calls → head_of (card_after card calls) ≡ Some h
 formatted-after h card f calls s = (calls-keep h 0 [] card (formatted-starts h card f) calls s).0.state.head
 
 pub one-sequence : OneSequence
@@ -226,13 +226,13 @@ fitting-bare places es =
 
 on-bare : (bib t places : ℕ) (o : Option (List Entry)) → Bare (history_on bib t places o)
 unfolding history_on
-on-bare bib t places none = λ n. refl
-on-bare bib t places (some es) = fitting-bare places (by_stamp (only (says_of bib t) es))
+on-bare bib t places None = λ n. refl
+on-bare bib t places (Some es) = fitting-bare places (by_stamp (only (says_of bib t) es))
 
 in-bare : (card : List ℕ) (bib t places : ℕ) (o : Option Head) → Bare (history_in card bib t places o)
 unfolding history_in
-in-bare card bib t places none = λ n. refl
-in-bare card bib t places (some h) =
+in-bare card bib t places None = λ n. refl
+in-bare card bib t places (Some h) =
     let on = history_on bib t places (area h card) in
     elim (eqb bib 0) as (λ b. Bare (if b (roll 2 []) (if (ltb t (beginning card)) (roll 13 []) on))) [
       | true ↦ λ n. refl

@@ -2,7 +2,7 @@
 use mathlib.Core.Path.{◌≡◌, refl, sym, ap, subst, ◌∙◌}
 use mathlib.Core.Logic.{◌⊎◌, inl, inr, ⊎_elim}
 use mathlib.Core.Bool.{Bool, true, false, not}
-use mathlib.Core.Option.{Option, none, some}
+use Rattle.std.specs.Prelude.{Option, None, Some}
 use mathlib.Core.List.{List, [], ◌∷◌, ◌++◌, append-nil, append_assoc}
 use Prim.Native.Nat.{ℕ, zero, suc, ◌+◌, ◌*◌, ◌-◌, ◌/◌, ◌%◌, ◌≤◌, ◌<◌}
 use native.Mathlib.Omega.{arith}
@@ -59,7 +59,7 @@ last-in (e ∷ es) = last-of e es
 unfoldable pub ruled : List Entry → Entry → Plan → Plan
 ruled es e p = refuse_if (eqb e.key 0) 2 (refuse_if (not (status_fits e.status e.value)) 14 (refuse_if (leb e.stamp (last_stamp 0 es)) 3 (refuse_if (not (is_post e) & is_none (stands_in latest e.key es)) 5 p)))
 
-pub journal-ruled : (slice : List ℕ) (es : List Entry) (e : Entry) → journal slice ≡ some es → journal_plan slice e ≡ ruled es e (journal_on slice e (journal_blanks slice))
+pub journal-ruled : (slice : List ℕ) (es : List Entry) (e : Entry) → journal slice ≡ Some es → journal_plan slice e ≡ ruled es e (journal_on slice e (journal_blanks slice))
 unfolding journal_plan journal_for ruled
 journal-ruled slice es e q = rw (q, last-in es)
 
@@ -109,7 +109,7 @@ order-more slice es e w a key up fits lt =
     let first = (first-blank slice es w lt).1 e in
     let long : length (put slice (length es) (encode e)) ≡ length slice = length-put slice (length es) (encode e) (length-encode e) (omega arith) in
     let whole = fill-run 0 slice 0 c es (e ∷ []) (asks-fine 0 e a key (omega arith) fits, tt) (omega arith) first.1 w.1 in
-    let is : run 0 (put slice (length es) (encode e)) 0 c ≡ some (es ++ (e ∷ [])) = ap (λ s. run 0 s 0 c) (sym first.0) ∙ whole in
+    let is : run 0 (put slice (length es) (encode e)) 0 c ≡ Some (es ++ (e ∷ [])) = ap (λ s. run 0 s 0 c) (sym first.0) ∙ whole in
     (ap (λ n. n % 16) long ∙ w.0, ap (λ n. run 0 (put slice (length es) (encode e)) 0 (n / 16)) long ∙ is, rising-more 0 es e w.2 (asks-kind e a).1 up)
 
 -- so a call leaves a journal of what was accepted
@@ -179,8 +179,8 @@ blank-order sectors =
 -- what next finds in the entries
 pub next-given : (o : Option Entry) → next_of o ≡ given o
 unfolding next_of
-next-given none = refl
-next-given (some e) = refl
+next-given None = refl
+next-given (Some e) = refl
 
 pub found_in : (t k : ℕ) (es : List Entry) → All (λ e. (0 ≤ e.key) × (e.key < 4294967296)) es → Found (λ b. stands_as_of t b es) k 0 4294967296 (standing_above k (left t es))
 unfolding left
@@ -194,7 +194,7 @@ module _ (sectors : ℕ) (asks : List Ask) (z : AsksSized asks) where
   abbrev entries : List Entry
   entries = accepted_in (blank_slice sectors) asks
 
-  holds : journal slice ≡ some entries
+  holds : journal slice ≡ Some entries
   holds = order-journal slice entries (asks-order asks z (blank_slice sectors) [] (blank-order sectors)).0
 
   tells : (bib t : ℕ) → (1 ≤ bib → journal_look slice bib t ≡ sheet bib 0 (stands_as_of t bib entries)) × Smallest (λ b. stands_as_of t b entries) bib (journal_next slice bib t)
@@ -212,13 +212,13 @@ pub journal-tells-the-truth : JournalTellsTheTruth
 journal-tells-the-truth sectors asks z bib t = tells sectors asks z bib t
 
 -- a run as long as the slice has no blank
-full-run : (slice : List ℕ) (i c : ℕ) (es : List Entry) → run 0 slice i c ≡ some es → length es ≡ c → (j : ℕ) → i ≤ j → j < i + c → zeros (sector_at slice j) ≡ false
+full-run : (slice : List ℕ) (i c : ℕ) (es : List Entry) → run 0 slice i c ≡ Some es → length es ≡ c → (j : ℕ) → i ≤ j → j < i + c → zeros (sector_at slice j) ≡ false
 unfolding run
 full-run slice i zero es q l j a b = absurd (omega arith)
 full-run slice i (suc c) es q l j a b =
     ⊎_elim
-    (λ (v : (decode 0 (sector_at slice i) ≡ Blank) × (es ≡ []) × (run 0 slice (suc i) c ≡ some [])). let none = ap length v.1 in absurd (omega arith))
-    (λ (v : (x : Entry) × (xs : List Entry) × (decode 0 (sector_at slice i) ≡ Held x) × (es ≡ x ∷ xs) × (run 0 slice (suc i) c ≡ some xs)).
+    (λ (v : (decode 0 (sector_at slice i) ≡ Blank) × (es ≡ []) × (run 0 slice (suc i) c ≡ Some [])). let None = ap length v.1 in absurd (omega arith))
+    (λ (v : (x : Entry) × (xs : List Entry) × (decode 0 (sector_at slice i) ≡ Held x) × (es ≡ x ∷ xs) × (run 0 slice (suc i) c ≡ Some xs)).
     let more = ap length v.3 in
     ⊎_elim
     (λ (le : j ≤ i). let here : i ≡ j = omega arith in ap (λ k. zeros (sector_at slice k)) (sym here) ∙ held-zeros 0 (sector_at slice i) v.0 v.2)
@@ -250,7 +250,7 @@ above-last at s [] lt up = lt
 above-last at s (e ∷ es) lt up = above-last at e.stamp es up.0 up.1
 
 -- a post, and a strike by what stands
-module _ (slice : List ℕ) (es : List Entry) (q : journal slice ≡ some es) (bib at : ℕ) (lo : 1 ≤ bib) (one : 1 ≤ at) (up : Above at es) where
+module _ (slice : List ℕ) (es : List Entry) (q : journal slice ≡ Some es) (bib at : ℕ) (lo : 1 ≤ bib) (one : 1 ≤ at) (up : Above at es) where
   abbrev on : Entry → Plan
   on e = journal_on slice e (journal_blanks slice)
 
@@ -267,10 +267,10 @@ module _ (slice : List ℕ) (es : List Entry) (q : journal slice ≡ some es) (b
       journal-ruled slice es e q ∙ rw (ne_eqb bib 0 (λ n. omega arith), bare-fits, lt-leb at (last_stamp 0 es) (above-last at 0 es (omega arith) up), stands_plain latest bib es)
 
   struck : (o : Option Entry) (p r : Plan) → PlanIfBlank slice p → r ≡ refuse_if (is_none o) 5 p
-      → ((o ≡ none) × ((plan_answer r).code ≡ 5)) ⊎ ((o ≡ none → ⊥) × PlanIfBlank slice r)
+      → ((o ≡ None) × ((plan_answer r).code ≡ 5)) ⊎ ((o ≡ None → ⊥) × PlanIfBlank slice r)
   unfolding is_none refuse_if plan_answer refused
-  struck none p r t is = inl (refl, ap (λ x. (plan_answer x).code) is)
-  struck (some d) p r t is = inr ((λ n. none-some (sym n)), subst (PlanIfBlank slice) (sym is) t)
+  struck None p r t is = inl (refl, ap (λ x. (plan_answer x).code) is)
+  struck (Some d) p r t is = inr ((λ n. none-some (sym n)), subst (PlanIfBlank slice) (sym is) t)
 
 pub journal-takes-until-full : JournalTakesUntilFull
 unfolding noted planned
@@ -287,8 +287,8 @@ plan-by : (P : Plan → Type 0) (slice : List ℕ) (e : Entry) → P (refuse 1)
 plan-by P slice e broken sound = go (journal slice) refl
   where
     go : (o : Option (List Entry)) → journal slice ≡ o → P (journal_plan slice e)
-    go none q = subst P (sym (not-journal slice e q)) broken
-    go (some es) q = subst P (sym (journal-ruled slice es e q)) (sound es (journal-order slice es q))
+    go None q = subst P (sym (not-journal slice e q)) broken
+    go (Some es) q = subst P (sym (journal-ruled slice es e q)) (sound es (journal-order slice es q))
 
 -- 6 is the last test
 plan-six : (slice : List ℕ) (e : Entry) → (plan_answer (journal_plan slice e)).code ≡ 6 → NoBlank slice
@@ -308,26 +308,26 @@ plan-six slice e = plan-by (λ p. (plan_answer p).code ≡ 6 → NoBlank slice) 
 -- the numbers of look and next
 sheet-code : (bib : ℕ) (o : Option Entry) → (sheet bib 0 o).code ≡ 0
 unfolding sheet
-sheet-code bib none = refl
-sheet-code bib (some e) = refl
+sheet-code bib None = refl
+sheet-code bib (Some e) = refl
 
 look-six : (bib t : ℕ) (o : Option (List Entry)) → (journal_look_in bib t o).code ≡ 6 → ⊥
 unfolding journal_look_in refused
-look-six bib t none z = omega arith
-look-six bib t (some es) z =
+look-six bib t None z = omega arith
+look-six bib t (Some es) z =
     ⊎_elim
     (λ (b : eqb bib 0 ≡ true). let two : 2 ≡ 6 = rw b at z in omega arith)
-    (λ (b : eqb bib 0 ≡ false). let none : (sheet bib 0 (stands_in t bib es)).code ≡ 6 = rw b at z in omega (arith, none, sheet-code bib (stands_in t bib es)))
+    (λ (b : eqb bib 0 ≡ false). let None : (sheet bib 0 (stands_in t bib es)).code ≡ 6 = rw b at z in omega (arith, None, sheet-code bib (stands_in t bib es)))
     (bool_cases (eqb bib 0))
 
 next-six : (k t : ℕ) (o : Option (List Entry)) → (journal_next_in k t o).code ≡ 6 → ⊥
 unfolding journal_next_in refused next_of ended
-next-six k t none z = omega arith
-next-six k t (some es) z = go (standing_above k (left t es)) z
+next-six k t None z = omega arith
+next-six k t (Some es) z = go (standing_above k (left t es)) z
   where
     go : (o : Option Entry) → (next_of o).code ≡ 6 → ⊥
-    go none z = omega arith
-    go (some e) z = omega arith
+    go None z = omega arith
+    go (Some e) z = omega arith
 
 pub six-means-full : SixMeansFull
 unfolding noted planned answered journal_post journal_strike journal_look journal_next
@@ -365,17 +365,17 @@ journal-overwrites-nothing slice (next_ask bib t) = left-promise slice slice ([]
 -- a refusal leaves the slice, with zeros beside its number
 look-bare : (bib t : ℕ) (o : Option (List Entry)) → Bare (journal_look_in bib t o)
 unfolding journal_look_in
-look-bare bib t none = bare-refused 1
-look-bare bib t (some es) = bare-if (eqb bib 0) (refused 2) (sheet bib 0 (stands_in t bib es)) (bare-refused 2) (sheet-bare bib 0 (stands_in t bib es))
+look-bare bib t None = bare-refused 1
+look-bare bib t (Some es) = bare-if (eqb bib 0) (refused 2) (sheet bib 0 (stands_in t bib es)) (bare-refused 2) (sheet-bare bib 0 (stands_in t bib es))
 
 next-bare : (k t : ℕ) (o : Option (List Entry)) → Bare (journal_next_in k t o)
 unfolding journal_next_in next_of
-next-bare k t none = bare-refused 1
-next-bare k t (some es) = go (standing_above k (left t es))
+next-bare k t None = bare-refused 1
+next-bare k t (Some es) = go (standing_above k (left t es))
   where
     go : (o : Option Entry) → Bare (next_of o)
-    go none = ended-bare
-    go (some e) = bare-zero (next_of (some e)) refl
+    go None = ended-bare
+    go (Some e) = bare-zero (next_of (Some e)) refl
 
 unchanged : (slice : List ℕ) (q : Ask) → ((noted slice q).answer.code ≡ 0 → ⊥) → ((noted slice q).card ≡ slice) × ((noted slice q).answer ≡ refused (noted slice q).answer.code)
 unfolding noted planned answered journal_look journal_next
@@ -400,17 +400,17 @@ plan-reads (accept new) = refl
 
 look-reads : (bib t : ℕ) (o : Option (List Entry)) → (journal_look_in bib t o).reads ≡ 0
 unfolding journal_look_in refused
-look-reads bib t none = refl
-look-reads bib t (some es) = ⊎_elim (λ (b : eqb bib 0 ≡ true). rw b) (λ (b : eqb bib 0 ≡ false). rw b (sheet-reads bib 0 (stands_in t bib es))) (bool_cases (eqb bib 0))
+look-reads bib t None = refl
+look-reads bib t (Some es) = ⊎_elim (λ (b : eqb bib 0 ≡ true). rw b) (λ (b : eqb bib 0 ≡ false). rw b (sheet-reads bib 0 (stands_in t bib es))) (bool_cases (eqb bib 0))
 
 next-reads : (k t : ℕ) (o : Option (List Entry)) → (journal_next_in k t o).reads ≡ 0
 unfolding journal_next_in refused next_of ended
-next-reads k t none = refl
-next-reads k t (some es) = go (standing_above k (left t es))
+next-reads k t None = refl
+next-reads k t (Some es) = go (standing_above k (left t es))
   where
     go : (o : Option Entry) → (next_of o).reads ≡ 0
-    go none = refl
-    go (some e) = refl
+    go None = refl
+    go (Some e) = refl
 
 noted-reads : (slice : List ℕ) (q : Ask) → (noted slice q).answer.reads ≡ 0
 unfolding noted planned answered journal_look journal_next

@@ -3,7 +3,7 @@
 use mathlib.Core.Path.{◌≡◌, refl, ap, sym, ◌∙◌, subst}
 use mathlib.Core.Logic.{◌⊎◌, inl, inr, ⊎_elim}
 use mathlib.Core.Bool.{Bool, true, false}
-use mathlib.Core.Option.{Option, none, some}
+use Rattle.std.specs.Prelude.{Option, None, Some}
 use Prim.Native.Nat.{ℕ, zero, suc, ◌+◌, ◌*◌, ◌≤◌, ◌<◌}
 use native.Mathlib.Omega.{arith}
 use mathlib.Core.List.{List, [], ◌∷◌, ◌++◌, append_assoc, append-nil}
@@ -89,14 +89,14 @@ known-held h es c ok j lo d q =
     held_one : (d e : Entry) → Held d ≡ Held e → d ≡ e
     held_one d e q = cc
 
-run-stands : (n : ℕ) (card : List ℕ) (i c : ℕ) (es : List Entry) → run n card i c ≡ some es → All (Stands n card i (i + c)) es
+run-stands : (n : ℕ) (card : List ℕ) (i c : ℕ) (es : List Entry) → run n card i c ≡ Some es → All (Stands n card i (i + c)) es
 unfolding run
 run-stands n card i zero [] q = tt
-run-stands n card i zero (e ∷ es) q = absurd (none-some (let z : none ≡ some e = cc in z))
+run-stands n card i zero (e ∷ es) q = absurd (none-some (let z : None ≡ Some e = cc in z))
 run-stands n card i (suc c) es q =
     ⊎_elim
-    (λ (v : (decode n (sector_at card i) ≡ Blank) × (es ≡ []) × (run n card (suc i) c ≡ some [])). subst (All (Stands n card i (i + suc c))) (sym v.1) tt)
-    (λ (v : (x : Entry) × (xs : List Entry) × (decode n (sector_at card i) ≡ Held x) × (es ≡ x ∷ xs) × (run n card (suc i) c ≡ some xs)).
+    (λ (v : (decode n (sector_at card i) ≡ Blank) × (es ≡ []) × (run n card (suc i) c ≡ Some [])). subst (All (Stands n card i (i + suc c))) (sym v.1) tt)
+    (λ (v : (x : Entry) × (xs : List Entry) × (decode n (sector_at card i) ≡ Held x) × (es ≡ x ∷ xs) × (run n card (suc i) c ≡ Some xs)).
     subst (All (Stands n card i (i + suc c))) (sym v.3) (
       (i, omega arith, omega arith, v.2),
       all_map (Stands n card (suc i) (suc i + c)) (Stands n card i (i + suc c)) (λ d z. let a = z.1 in let b = z.2 in (z.0, omega arith, omega arith, z.3)) v.1
@@ -105,7 +105,7 @@ run-stands n card i (suc c) es q =
     (onto-inv (decode n (sector_at card i)) (run n card (suc i) c) es q)
 
 -- the entries of a bucket stand in the bucket area
-bucket-there : (h : Head) (c : List ℕ) → size_of h ≡ length c → (b : ℕ) (cs : List Entry) → bucket h c b ≡ some cs → All (There h c) cs
+bucket-there : (h : Head) (c : List ℕ) → size_of h ≡ length c → (b : ℕ) (cs : List Entry) → bucket h c b ≡ Some cs → All (There h c) cs
 unfolding base
 bucket-there h c size b cs q =
     let r = bucket-raw h c b cs q in
@@ -113,7 +113,7 @@ bucket-there h c size b cs q =
     all_map (Stands h.n c (base h b) (base h b + h.m)) (There h c) (λ d z. let a = z.1 in let e = z.2 in (z.0, omega arith, omega arith, z.3)) cs
     (run-stands h.n c (base h b) h.m cs r.1)
 
-bucket-known : (h : Head) (es : List Entry) (c : List ℕ) → size_of h ≡ length c → OnlyKnown h es c → (b : ℕ) (cs : List Entry) → bucket h c b ≡ some cs → All (Is es) cs
+bucket-known : (h : Head) (es : List Entry) (c : List ℕ) → size_of h ≡ length c → OnlyKnown h es c → (b : ℕ) (cs : List Entry) → bucket h c b ≡ Some cs → All (Is es) cs
 bucket-known h es c size ok b cs q = all_map (There h c) (Is es) (λ d z. known-held h es c ok z.0 z.1 d z.3) cs (bucket-there h c size b cs q)
 
 is-more : (es fs : List Entry) (d : Entry) → Is es d → Is (es ++ fs) d
@@ -187,7 +187,7 @@ module _ (h : Head) (c : List ℕ) (g : ℕ → ℕ → Option Entry) (begin s :
       let above = inv.1 in
       let fe = asks-fine h.n e asks inv.0 (omega arith) inv.3 in
       plan-chain h hf.0.n4096 (Is all) e (pair_is all e.stamp) c size (fe, inr ((asks-kind e asks).1, inr (mem-right e es (e ∷ []) (inl refl)))) pw.0
-      (along-map (λ v. bucket h c v.number ≡ some v.entries) (λ v. (1 ≤ v.number) × (v.number ≤ h.n) × All (λ d. Fine h.n d × Is all d) v.entries)
+      (along-map (λ v. bucket h c v.number ≡ Some v.entries) (λ v. (1 ≤ v.number) × (v.number ≤ h.n) × All (λ d. Fine h.n d × Is all d) v.entries)
       (λ v z. let br = bucket-raw h c v.number v.entries z in (
         br.0,
         bucket-within h c v.number v.entries size z,
@@ -296,9 +296,9 @@ rec-is : (t : ℕ) (rs : List Entry) (e : Entry) → Rec t e → Mem e rs → Is
 rec-is t rs e r m = inr (rec-data t e r, inr m)
 
 -- a record of those begun with is said of its bib
-said-mem : (rs : List Entry) → Sorted rs → (e : Entry) → e.kind ≡ 1 → Mem e rs → said rs e.key ≡ some e
+said-mem : (rs : List Entry) → Sorted rs → (e : Entry) → e.kind ≡ 1 → Mem e rs → said rs e.key ≡ Some e
 said-mem [] so e k m = absurd m
-said-mem (d ∷ rs) so e k (inl q) = subst (λ z. said (z ∷ rs) e.key ≡ some e) q (said-first e rs k (subst (λ z. All (λ x. z.key < x.key) rs) (sym q) so.0))
+said-mem (d ∷ rs) so e k (inl q) = subst (λ z. said (z ∷ rs) e.key ≡ Some e) q (said-first e rs k (subst (λ z. All (λ x. z.key < x.key) rs) (sym q) so.0))
 said-mem (d ∷ rs) so e k (inr m) =
     let later = mem-all (λ x. d.key < x.key) rs so.0 e m in
     said-later e.key d rs (λ z. omega arith) ∙ said-mem rs so.1 e k m
@@ -309,7 +309,7 @@ said-there h c rs t ke so e r m =
     let a = ke.answers t e.key (omega arith) r.0.key in
     let size = (head-facts c h ke.state.head).1 in
     stands-all (There h c) t e.key a.0
-    (along-map (λ v. bucket h c v.number ≡ some v.entries) (λ v. All (There h c) v.entries) (λ v z. bucket-there h c size v.number v.entries z) a.0
+    (along-map (λ v. bucket h c v.number ≡ Some v.entries) (λ v. All (There h c) v.entries) (λ v z. bucket-there h c size v.number v.entries z) a.0
     (walk-reads h c t e.key a.0 a.1))
     e (ends-here (said rs) t e.key 0 4294967296 a.0 a.2 ∙ said-mem rs so e r.1 m)
 

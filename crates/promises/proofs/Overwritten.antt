@@ -1,5 +1,5 @@
 -- Nothing is overwritten, on any card.
-use mathlib.Core.Option.{Option, none, some}
+use Rattle.std.specs.Prelude.{Option, None, Some}
 use mathlib.Core.Bool.{Bool, true, false}
 use mathlib.Core.Logic.{⊎_elim}
 use Prim.Native.Nat.{ℕ, zero, suc, ◌+◌, ◌*◌, ◌≤◌, ◌<◌}
@@ -130,17 +130,17 @@ format-left card h (accept new) q =
     subst (Left card) i.3 (formatted-left h card (limits-hold h i.0) i.1 i.2)
 
 -- post and strike
-headless : (card : List ℕ) (e : Entry) (new : List ℕ) → head_of card ≡ none → plan card e ≡ accept new → ⊥
+headless : (card : List ℕ) (e : Entry) (new : List ℕ) → head_of card ≡ None → plan card e ≡ accept new → ⊥
 unfolding plan plan_for
 headless card e new hq q = no-accept 1 new (rw hq at q)
 
 plan-left : (card : List ℕ) → Bytes card → (e : Entry) → Asks e → (o : Option Head) → head_of card ≡ o → (p : Plan) → plan card e ≡ p
     → Left card (plan_card card p)
 unfolding plan_card
-plan-left card by e a none hq (refuse c) q = ([], refl)
-plan-left card by e a none hq (accept new) q = absurd (headless card e new hq q)
-plan-left card by e a (some h) hq (refuse c) q = ([], refl)
-plan-left card by e a (some h) hq (accept new) q =
+plan-left card by e a None hq (refuse c) q = ([], refl)
+plan-left card by e a None hq (accept new) q = absurd (headless card e new hq q)
+plan-left card by e a (Some h) hq (refuse c) q = ([], refl)
+plan-left card by e a (Some h) hq (accept new) q =
     let c = call-puts h card hq by e a new q in
     (c.0, puts-written h (λ d. d.stamp ≤ e.stamp) card c.0 new (head-facts card h hq).1 c.1)
 
@@ -158,8 +158,8 @@ call-left card by (next_call bib t) s = ([], refl)
 plan-bytes : (card : List ℕ) → Bytes card → (e : Entry) → Asks e → (o : Option Head) → head_of card ≡ o → (p : Plan) → plan card e ≡ p → Bytes (plan_card card p)
 unfolding plan_card
 plan-bytes card by e a o hq (refuse c) q = by
-plan-bytes card by e a none hq (accept new) q = absurd (headless card e new hq q)
-plan-bytes card by e a (some h) hq (accept new) q = bytes_after h card hq by e a new q
+plan-bytes card by e a None hq (accept new) q = absurd (headless card e new hq q)
+plan-bytes card by e a (Some h) hq (accept new) q = bytes_after h card hq by e a new q
 
 abbrev LeftBytes : List ℕ → List ℕ → Type 0
 LeftBytes card new = Left card new × Bytes new
@@ -169,13 +169,13 @@ unfolding plan_card
 request-left card by r br = go (head_of card) refl
   where
     go : (o : Option Head) → head_of card ≡ o → LeftBytes card (plan_card card (request card r))
-    go none hq = subst (λ (p : Plan). LeftBytes card (plan_card card p)) (sym (no-card card r hq)) (([], refl), by)
-    go (some h) hq =
+    go None hq = subst (λ (p : Plan). LeftBytes card (plan_card card p)) (sym (no-card card r hq)) (([], refl), by)
+    go (Some h) hq =
         ⊎_elim
         (λ (w : well_asked r ≡ true).
         let a = well-asks r br w in
         subst (λ (p : Plan). LeftBytes card (plan_card card p)) (sym (asked card r h hq w))
-        (plan-left card by (fields r) a (some h) hq (plan card (fields r)) refl, plan-bytes card by (fields r) a (some h) hq (plan card (fields r)) refl))
+        (plan-left card by (fields r) a (Some h) hq (plan card (fields r)) refl, plan-bytes card by (fields r) a (Some h) hq (plan card (fields r)) refl))
         (λ (w : well_asked r ≡ false). subst (λ (p : Plan). LeftBytes card (plan_card card p)) (sym (ill-asked card r h hq w)) (([], refl), by))
         (bool_cases (well_asked r))
 

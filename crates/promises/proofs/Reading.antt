@@ -1,5 +1,5 @@
 -- What stands after accepted entries is the plain reading of their list.
-use mathlib.Core.Option.{Option, none, some}
+use Rattle.std.specs.Prelude.{Option, None, Some}
 use mathlib.Core.Bool.{true, false, Bool}
 use Prim.Native.Nat.{ℕ, ◌≤◌}
 use mathlib.Core.Path.{refl, sym, ap, ap₂, ◌∙◌, ◌≡◌}
@@ -28,8 +28,8 @@ up-to-left t (e ∷ es) =
 
 last_step : (bib : ℕ) (e : Entry) (r : Option Entry) → last_from bib e r ≡ cstep (eqb e.key bib) e r
 unfolding last_from
-last_step bib e none = elim (eqb e.key bib) as (λ b. elim b [ true ↦ some e | false ↦ none ] ≡ cstep b e none) [ true ↦ refl | false ↦ refl ]
-last_step bib e (some d) = elim (eqb e.key bib) as (λ b. some d ≡ cstep b e (some d)) [ true ↦ refl | false ↦ refl ]
+last_step bib e None = elim (eqb e.key bib) as (λ b. elim b [ true ↦ Some e | false ↦ None ] ≡ cstep b e None) [ true ↦ refl | false ↦ refl ]
+last_step bib e (Some d) = elim (eqb e.key bib) as (λ b. Some d ≡ cstep b e (Some d)) [ true ↦ refl | false ↦ refl ]
 
 last-copy : (bib : ℕ) (es : List Entry) → last_for bib es ≡ copy_of bib es
 unfolding last_for copy_of only last_of
@@ -38,8 +38,8 @@ last-copy bib (e ∷ es) = ap (last_from bib e) (last-copy bib es) ∙ last_step
 
 post-standing : (r : Option Entry) → if_post r ≡ standing r
 unfolding if_post standing is_post
-post-standing none = refl
-post-standing (some e) = elim (eqb e.kind 1) as (λ b. elim b [ true ↦ some e | false ↦ none ] ≡ if b (some e) none) [ true ↦ refl | false ↦ refl ]
+post-standing None = refl
+post-standing (Some e) = elim (eqb e.kind 1) as (λ b. elim b [ true ↦ Some e | false ↦ None ] ≡ if b (Some e) None) [ true ↦ refl | false ↦ refl ]
 
 pub stands_plain : (t bib : ℕ) (es : List Entry) → stands_as_of t bib es ≡ standing (copy_of bib (left t es))
 unfolding stands_as_of
@@ -47,12 +47,12 @@ stands_plain t bib es = post-standing (last_for bib (up_to t es)) ∙ ap standin
 
 -- the last copy in a list decides; without one, what stood before
 abbrev later : Option Entry → Option Entry → Option Entry
-later none g = g
-later (some e) g = standing (some e)
+later None g = g
+later (Some e) g = standing (Some e)
 
-later-cons : (b : Bool) (e : Entry) (r g : Option Entry) → later r (if b (standing (some e)) g) ≡ later (cstep b e r) g
-later-cons true e none g = refl
-later-cons true e (some d) g = refl
+later-cons : (b : Bool) (e : Entry) (r g : Option Entry) → later r (if b (standing (Some e)) g) ≡ later (cstep b e r) g
+later-cons true e None g = refl
+later-cons true e (Some d) g = refl
 later-cons false e r g = refl
 
 after-later : (g : ℕ → ℕ → Option Entry) (es : List Entry) (t x : ℕ) → after g es t x ≡ later (copy_of x (left t es)) (g t x)
@@ -70,17 +70,17 @@ unfolding copy_of only last_of standing
 copy-behind x rs es = ap standing (whole rs) ∙ first (copy_of x es) (copy_of x rs)
   where
     or : Option Entry → Option Entry → Option Entry
-    or none o = o
-    or (some e) o = some e
+    or None o = o
+    or (Some e) o = Some e
 
     step : (b : Bool) (d : Entry) (r o : Option Entry) → cstep b d (or r o) ≡ or r (cstep b d o)
-    step true d none o = refl
-    step true d (some e) o = refl
+    step true d None o = refl
+    step true d (Some e) o = refl
     step false d r o = refl
 
-    none_before : (r : Option Entry) → r ≡ or r none
-    none_before none = refl
-    none_before (some e) = refl
+    none_before : (r : Option Entry) → r ≡ or r None
+    none_before None = refl
+    none_before (Some e) = refl
 
     whole : (rs : List Entry) → copy_of x (rs ++ es) ≡ or (copy_of x es) (copy_of x rs)
     whole [] = none_before (copy_of x es)
@@ -89,8 +89,8 @@ copy-behind x rs es = ap standing (whole rs) ∙ first (copy_of x es) (copy_of x
         ∙ ap (or (copy_of x es)) (sym (copy-cons x d rs))
 
     first : (r o : Option Entry) → standing (or r o) ≡ later r (standing o)
-    first none o = refl
-    first (some e) o = refl
+    first None o = refl
+    first (Some e) o = refl
 
 -- the plain reading of records and of entries behind them
 stands-behind : (t x : ℕ) (rs es : List Entry) → stands_as_of t x (rs ++ es) ≡ later (copy_of x (left t es)) (said (left t rs) x)

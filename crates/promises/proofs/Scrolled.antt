@@ -2,7 +2,7 @@
 use mathlib.Core.Path.{◌≡◌, refl, ap, sym, ◌∙◌}
 use mathlib.Core.List.{List, []}
 use Prim.Native.Nat.{ℕ, ◌/◌}
-use mathlib.Core.Option.{Option, none, some}
+use Rattle.std.specs.Prelude.{Option, None, Some}
 use mathlib.Core.Bool.{Bool, true, false}
 use lib.ListN.{length}
 use lib.Dec.{ltb, eqb}
@@ -32,8 +32,8 @@ given-bare r = one (eqb r.code 0) refl
 
 in-bare : (card : List ℕ) (at c bib : ℕ) (o : Option Head) → Bare (records_in card at c bib o)
 unfolding records_in
-in-bare card at c bib none = λ n. refl
-in-bare card at c bib (some h) =
+in-bare card at c bib None = λ n. refl
+in-bare card at c bib (Some h) =
     elim (ltb at (beginning card)) as (λ b. Bare (if b (roll 13 []) (given (rolled card at c bib)))) [ true ↦ λ n. refl | false ↦ given-bare (rolled card at c bib) ]
 
 records-bare : (card : List ℕ) (at c bib : ℕ) → Bare (records_of card at c bib)

@@ -1,5 +1,5 @@
 -- A call's outcome is settled; refused, it leaves the card, and gives zeros beside its number.
-use mathlib.Core.Option.{Option, none, some}
+use Rattle.std.specs.Prelude.{Option, None, Some}
 use mathlib.Core.Bool.{Bool, true, false}
 use Prim.Native.Nat.{ℕ, zero, suc}
 use mathlib.Core.Path.{refl, sym, ◌∙◌, ◌≡◌}
@@ -45,13 +45,13 @@ plan-bare (accept new) = bare-refused 0
 
 pub sheet-bare : (bib reads : ℕ) (o : Option Entry) → Bare (sheet bib reads o)
 unfolding sheet
-sheet-bare bib reads none = bare-zero (sheet bib reads none) refl
-sheet-bare bib reads (some e) = bare-zero (sheet bib reads (some e)) refl
+sheet-bare bib reads None = bare-zero (sheet bib reads None) refl
+sheet-bare bib reads (Some e) = bare-zero (sheet bib reads (Some e)) refl
 
 look_on-bare : (bib t : ℕ) (w : Option (List Visit)) → Bare (look_on bib t w)
 unfolding look_on
-look_on-bare bib t none = bare-refused 4
-look_on-bare bib t (some p) = sheet-bare bib (length p) (stands_on t bib p)
+look_on-bare bib t None = bare-refused 4
+look_on-bare bib t (Some p) = sheet-bare bib (length p) (stands_on t bib p)
 
 pub bare-if : (b : Bool) (x y : Answer) → Bare x → Bare y → Bare (if b x y)
 bare-if true x y p q = p
@@ -59,8 +59,8 @@ bare-if false x y p q = q
 
 look-bare : (bib t : ℕ) (card : List ℕ) (o : Option Head) → Bare (look_in bib t card o)
 unfolding look_in
-look-bare bib t card none = bare-refused 1
-look-bare bib t card (some h) =
+look-bare bib t card None = bare-refused 1
+look-bare bib t card (Some h) =
     bare-if (eqb bib 0) (refused 2) _ (bare-refused 2) (bare-if (ltb t (beginning card)) (refused 13) _ (bare-refused 13) (look_on-bare bib t (walk h card t bib)))
 
 pub ended-bare : Bare ended
@@ -69,18 +69,18 @@ ended-bare = bare-zero ended refl
 
 to-bare : (o : Option Entry) (on : ℕ → Answer) → ((x : ℕ) → Bare (on x)) → Bare (hopping (hop_to o) on)
 unfolding hop_to hopping
-to-bare none on f = ended-bare
-to-bare (some e) on f = f e.key
+to-bare None on f = ended-bare
+to-bare (Some e) on f = f e.key
 
 or-bare : (o : Option Entry) (h : Hop) (on : ℕ → Answer) → Bare (hopping h on) → Bare (hopping (hop_or o h) on)
 unfolding hop_or hopping
-or-bare none h on b = b
-or-bare (some e) h on b = bare-zero (answer 0 e.key e.stamp e.status e.value 0) refl
+or-bare None h on b = b
+or-bare (Some e) h on b = bare-zero (answer 0 e.key e.stamp e.status e.value 0) refl
 
 hop-bare : (k t x : ℕ) (w : Option (List Visit)) (on : ℕ → Answer) → ((y : ℕ) → Bare (on y)) → Bare (hopping (hop k t x w) on)
 unfolding hop hopping
-hop-bare k t x none on f = bare-refused 4
-hop-bare k t x (some p) on f = or-bare (standing_above k (left t (data_of p))) (hop_to (key_above t x p)) on (to-bare (key_above t x p) on f)
+hop-bare k t x None on f = bare-refused 4
+hop-bare k t x (Some p) on f = or-bare (standing_above k (left t (data_of p))) (hop_to (key_above t x p)) on (to-bare (key_above t x p) on f)
 
 from-bare : (wk : ℕ → Option (List Visit)) (k t f x : ℕ) → Bare (next_from wk k t f x)
 unfolding next_from
@@ -89,8 +89,8 @@ from-bare wk k t (suc f) x = hop-bare k t x (wk x) (next_from wk k t f) (from-ba
 
 next-bare : (k t : ℕ) (card : List ℕ) (o : Option Head) → Bare (next_in k t card o)
 unfolding next_in
-next-bare k t card none = bare-refused 1
-next-bare k t card (some h) = bare-if (ltb t (beginning card)) (refused 13) _ (bare-refused 13) (from-bare (walk h card t) k t 4294967296 k)
+next-bare k t card None = bare-refused 1
+next-bare k t card (Some h) = bare-if (ltb t (beginning card)) (refused 13) _ (bare-refused 13) (from-bare (walk h card t) k t 4294967296 k)
 
 pub plan-same : (card : List ℕ) (p : Plan) → ((plan_answer p).code ≡ 0 → ⊥) → plan_card card p ≡ card
 unfolding plan_card plan_answer refused

@@ -1,6 +1,6 @@
 -- The entries accepted by a list of calls lead from card to card, and the last card answers for them.
 use mathlib.Core.Path.{◌≡◌, refl, sym, ap, subst}
-use mathlib.Core.Option.{Option, some}
+use Rattle.std.specs.Prelude.{Option, Some}
 use mathlib.Core.Bool.{true, false, Bool, not}
 use Prim.Native.Nat.{ℕ, zero, suc, ◌<◌}
 use mathlib.Core.Logic.{inl, inr, ⊎_elim, ◌⊎◌}
@@ -49,7 +49,7 @@ since-keeps h c g begin s ke (e ∷ es) d q =
     (r.0, λ at lt up. r.1 at up.0 up.1)
 
 -- a card with a head is not blank, so that a format of it is refused
-head-nonzero : (c : List ℕ) (h : Head) → head_of c ≡ some h → zeros c ≡ false
+head-nonzero : (c : List ℕ) (h : Head) → head_of c ≡ Some h → zeros c ≡ false
 head-nonzero c h q =
     ⊎_elim (λ (z : zeros c ≡ true). absurd (head-written c h q (zero-sector c 0 z))) (λ (z : zeros c ≡ false). z) (bool_cases (zeros c))
 
@@ -58,7 +58,7 @@ unfolding refuse_if
 refused-inner true c p z = (8, refl)
 refused-inner false c p z = (9, rw z)
 
-pub format-refused : (c : List ℕ) (h : Head) → head_of c ≡ some h → (n m td ti : ℕ) → (x : ℕ) × (format c n m td ti ≡ refuse x)
+pub format-refused : (c : List ℕ) (h : Head) → head_of c ≡ Some h → (n m td ti : ℕ) → (x : ℕ) × (format c n m td ti ≡ refuse x)
 unfolding format format_for
 format-refused c h q n m td ti =
     let g = meant n m td ti in
@@ -83,7 +83,7 @@ plan-step c e a (refuse zero) n q = absurd (n refl)
 plan-step c e a (refuse (suc x)) n q = inl (refl, refl)
 plan-step c e a (accept new) n q = inr (e, a, q, refl)
 
-call_step : (h : Head) (c : List ℕ) → head_of c ≡ some h → (k : Call) → Sized k → Step c (taken c k) (called c k).card
+call_step : (h : Head) (c : List ℕ) → head_of c ≡ Some h → (k : Call) → Sized k → Step c (taken c k) (called c k).card
 unfolding called planned answered taken plan_card post strike
 call_step h c hq (format_call n m td ti) s = let f = format-refused c h hq n m td ti in inl (refl, ap (plan_card c) f.1)
 call_step h c hq (post_call bib at status time) s = plan-step c (post_entry bib at status time) (post-asks bib at status time s.0 s.1 s.2) (plan c (post_entry bib at status time)) (plan-numbered c (post_entry bib at status time)) refl
@@ -92,7 +92,7 @@ call_step h c hq (look_call bib t) s = inl (refl, refl)
 call_step h c hq (next_call bib t) s = inl (refl, refl)
 
 -- and so does a request of a batch
-request-step : (h : Head) (c : List ℕ) → head_of c ≡ some h → (r : List ℕ) → Bytes r → Step c (if_zero (plan_answer (request c r)).code (fields r)) (plan_card c (request c r))
+request-step : (h : Head) (c : List ℕ) → head_of c ≡ Some h → (r : List ℕ) → Bytes r → Step c (if_zero (plan_answer (request c r)).code (fields r)) (plan_card c (request c r))
 unfolding if_zero plan_answer plan_card refused
 request-step h c hq r by =
     ⊎_elim

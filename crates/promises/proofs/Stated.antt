@@ -2,7 +2,7 @@
 use mathlib.Core.Bool.{true}
 use mathlib.Core.Path.{◌≡◌, refl, sym, ◌∙◌}
 use mathlib.Core.List.{List}
-use mathlib.Core.Option.{Option, none, some}
+use Rattle.std.specs.Prelude.{Option, None, Some}
 use Prim.Native.Nat.{ℕ, ◌≤◌, ◌<◌}
 use native.Mathlib.Omega.{arith}
 use lib.Dec.{leb}
@@ -39,7 +39,7 @@ at-not-three : (h : Head) (card : List ℕ) (e : Entry) (w : Option (List Visit)
 at-not-three h card e w = other-number (plan_at h card e w) (at-refuses (λ c. c ≡ 3 → ⊥) (λ z. omega arith) (λ z. omega arith) (λ z. omega arith) h card e w)
 
 -- a post on a card with a head
-module _ (card : List ℕ) (h : Head) (q : head_of card ≡ some h) (e : Entry) (key : 1 ≤ e.key) (fits : status_fits e.status e.value ≡ true) where
+module _ (card : List ℕ) (h : Head) (q : head_of card ≡ Some h) (e : Entry) (key : 1 ≤ e.key) (fits : status_fits e.status e.value ≡ true) where
   plan-is : plan card e ≡ refuse_if (leb e.stamp (stamp_on h card)) 3 (plan_at h card e (walk h card latest e.key))
   unfolding plan plan_for refuse_if
   plan-is = rw (q, ne_eqb e.key 0 (λ z. omega arith), fits)
@@ -59,8 +59,8 @@ Tells card bib at status time last =
 in-tells : (card : List ℕ) (o : Option Head) → head_of card ≡ o → (state_in card o).code ≡ 0 → (bib at status time : ℕ) → 1 ≤ bib → status_fits status time ≡ true
     → Tells card bib at status time (state_in card o).last
 unfolding state_in called planned post
-in-tells card none q z bib at status time lo fits = absurd (omega arith)
-in-tells card (some h) q z bib at status time lo fits = (three card h q (post_entry bib at status time) lo fits, not_three card h q (post_entry bib at status time) lo fits)
+in-tells card None q z bib at status time lo fits = absurd (omega arith)
+in-tells card (Some h) q z bib at status time lo fits = (three card h q (post_entry bib at status time) lo fits, not_three card h q (post_entry bib at status time) lo fits)
 
 pub state-tells-the-next : StateTellsTheNext
 unfolding state

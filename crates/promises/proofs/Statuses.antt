@@ -2,7 +2,7 @@
 use mathlib.Core.Path.{◌≡◌, refl}
 use mathlib.Core.Logic.{⊎_elim}
 use mathlib.Core.Bool.{Bool, true, false}
-use mathlib.Core.Option.{Option, none, some}
+use Rattle.std.specs.Prelude.{Option, None, Some}
 use mathlib.Core.List.{List}
 use Prim.Native.Nat.{ℕ, ◌≤◌, ◌<◌}
 use native.Mathlib.Omega.{arith}
@@ -33,15 +33,15 @@ refused-fits : (c : ℕ) → Fit (refused c)
 unfolding refused status_fits
 refused-fits c = refl
 
-sheet-fits : (bib reads : ℕ) (r : Option Entry) → ((e : Entry) → r ≡ some e → status_fits e.status e.value ≡ true) → Fit (sheet bib reads r)
+sheet-fits : (bib reads : ℕ) (r : Option Entry) → ((e : Entry) → r ≡ Some e → status_fits e.status e.value ≡ true) → Fit (sheet bib reads r)
 unfolding sheet status_fits
-sheet-fits bib reads none f = refl
-sheet-fits bib reads (some e) f = f e refl
+sheet-fits bib reads None f = refl
+sheet-fits bib reads (Some e) f = f e refl
 
 on_fits : (h : Head) (card : List ℕ) → Bytes card → (bib t : ℕ) (w : Option (List Visit)) → walk h card t bib ≡ w → Fit (look_on bib t w)
 unfolding look_on
-on_fits h card by bib t none q = refused-fits 4
-on_fits h card by bib t (some p) q = sheet-fits bib (length p) (stands_on t bib p) (λ e s. (walk-stands h card by t bib p q e s).5)
+on_fits h card by bib t None q = refused-fits 4
+on_fits h card by bib t (Some p) q = sheet-fits bib (length p) (stands_on t bib p) (λ e s. (walk-stands h card by t bib p q e s).5)
 
 look-fits : (card : List ℕ) → Bytes card → (bib t : ℕ) → Fit (look card bib t)
 unfolding look look_in
@@ -56,15 +56,15 @@ look-fits card by bib t = go (head_of card)
     known h false = late h (ltb t (beginning card))
 
     go : (o : Option Head) → Fit (look_in bib t card o)
-    go none = refused-fits 1
-    go (some h) = known h (eqb bib 0)
+    go None = refused-fits 1
+    go (Some h) = known h (eqb bib 0)
 
 next_fits : (card : List ℕ) → Bytes card → (bib t : ℕ) → Fit (next card bib t)
 unfolding status_fits
 next_fits card by bib t =
     ⊎_elim
     (λ (z : ((next card bib t).bib ≡ 0) × ((next card bib t).status ≡ 0)). rw z.1)
-    (λ (s : (e : Entry) × (next card bib t ≡ given (some e)) × Rec t e × (bib < e.key)). rw s.1 s.2.5)
+    (λ (s : (e : Entry) × (next card bib t ≡ given (Some e)) × Rec t e × (bib < e.key)). rw s.1 s.2.5)
     (next-tells card by t bib)
 
 pub status-fits-its-time : StatusFitsItsTime
@@ -74,8 +74,8 @@ status-fits-its-time card by bib t = let bytes = get-bytes card by in (look-fits
 misfit : (card : List ℕ) (e : Entry) (o : Option Head) → (state_in card o).code ≡ 0 → 1 ≤ e.key → status_fits e.status e.value ≡ false
     → plan_answer (plan_for card e o) ≡ refused 14
 unfolding state_in plan_for refuse_if plan_answer
-misfit card e none z key f = absurd (omega arith)
-misfit card e (some h) z key f = rw (ne_eqb e.key 0 (λ n. omega arith), f)
+misfit card e None z key f = absurd (omega arith)
+misfit card e (Some h) z key f = rw (ne_eqb e.key 0 (λ n. omega arith), f)
 
 pub misfit-is-refused : MisfitIsRefused
 unfolding state called planned post plan

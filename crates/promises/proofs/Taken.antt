@@ -1,5 +1,5 @@
 -- Nothing is refused without cause, on a card of our own making.
-use mathlib.Core.Option.{Option, none, some}
+use Rattle.std.specs.Prelude.{Option, None, Some}
 use mathlib.Core.Bool.{Bool, not, true}
 use Prim.Native.Nat.{ℕ, ◌+◌, ◌≤◌, ◌<◌, ◌-◌}
 use mathlib.Core.Path.{refl, sym, ap, subst, ◌∙◌, ◌≡◌}
@@ -60,7 +60,7 @@ too_few h card e p gt = let le = used-within h card h.n in omega arith
 -- of a plan: it is accepted where the buckets needed remain, and else refused with 6
 abbrev pub PlanTaken : Head → List ℕ → Entry → Plan → Type 0
 PlanTaken h card e plan =
-    (p : List Visit) × (walk h card latest e.key ≡ some p)
+    (p : List Visit) × (walk h card latest e.key ≡ Some p)
     × (((needed h card e p ≤ remaining h card) × ((new : List ℕ) × (plan ≡ accept new)))
     ⊎ ((remaining h card < needed h card e p) × (plan ≡ refuse 6)))
 
@@ -128,10 +128,10 @@ post-is-taken h begin rs card b calls s bib at status time b1 a1 z fits up =
 -- a strike where o stands
 struck : (h : Head) (card : List ℕ) (e : Entry) (o : Option Entry) (k : Call) (q p : Plan) → (called card k).answer ≡ plan_answer q → PlanTaken h card e p
     → q ≡ refuse_if (is_none o) 5 p
-    → ((o ≡ none) × ((called card k).answer.code ≡ 5)) ⊎ ((o ≡ none → ⊥) × TakenUnlessFull h card e k)
+    → ((o ≡ None) × ((called card k).answer.code ≡ 5)) ⊎ ((o ≡ None → ⊥) × TakenUnlessFull h card e k)
 unfolding is_none refuse_if plan_answer refused
-struck h card e none k q p is t eq = inl (refl, ap (λ (a : Answer). a.code) (is ∙ ap plan_answer eq))
-struck h card e (some d) k q p is t eq = inr ((λ n. none-some (sym n)), plan-answers h card e k q is (subst (PlanTaken h card e) (sym eq) t))
+struck h card e None k q p is t eq = inl (refl, ap (λ (a : Answer). a.code) (is ∙ ap plan_answer eq))
+struck h card e (Some d) k q p is t eq = inr ((λ n. none-some (sym n)), plan-answers h card e k q is (subst (PlanTaken h card e) (sym eq) t))
 
 pub strike-is-taken : StrikeIsTaken
 unfolding called planned strike

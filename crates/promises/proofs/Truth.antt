@@ -1,5 +1,5 @@
 -- Look and next tell the truth, whatever calls came before.
-use mathlib.Core.Option.{Option, none, some}
+use Rattle.std.specs.Prelude.{Option, None, Some}
 use Prim.Native.Nat.{ℕ, ◌≤◌, ◌<◌}
 use mathlib.Core.Path.{refl, sym, ap, subst, ◌∙◌, ◌≡◌}
 use mathlib.Core.Logic.{inl, inr}
@@ -44,8 +44,8 @@ calls-keep h begin rs card st calls s =
 
 pub sheet-reads : (bib reads : ℕ) (o : Option Entry) → (sheet bib reads o).reads ≡ reads
 unfolding sheet
-sheet-reads bib reads none = refl
-sheet-reads bib reads (some e) = refl
+sheet-reads bib reads None = refl
+sheet-reads bib reads (Some e) = refl
 
 module _ (h : Head) (begin : ℕ) (rs : List Entry) (card : List ℕ) (st : Starts h begin rs card) (calls : List Act) (s : AllSized calls) where
   abbrev es : List Entry
@@ -62,7 +62,7 @@ module _ (h : Head) (begin : ℕ) (rs : List Entry) (card : List ℕ) (st : Star
   calls-plain t le x = after-plain rs es t x (all_map (λ e. e.stamp ≤ begin) (λ e. e.stamp ≤ t) (λ e l. omega arith) rs st.past)
 
   calls-look : (bib t : ℕ) → 1 ≤ bib → bib < 4294967296 → begin ≤ t
-      → (p : List Visit) × (walk h new t bib ≡ some p) × (look new bib t ≡ sheet bib (length p) (stands_as_of t bib (rs ++ es)))
+      → (p : List Visit) × (walk h new t bib ≡ Some p) × (look new bib t ≡ sheet bib (length p) (stands_as_of t bib (rs ++ es)))
   unfolding look look_in look_on
   calls-look bib t lo hi le =
       let a = ke.answers t bib le hi in
@@ -76,7 +76,7 @@ module _ (h : Head) (begin : ℕ) (rs : List Entry) (card : List ℕ) (st : Star
       let n : (look new bib t).reads ≡ length l.0 = ap (λ a. a.reads) l.2 ∙ sheet-reads bib (length l.0) (stands_as_of t bib (rs ++ es)) in
       l.2 ∙ ap (λ r. sheet bib r (stands_as_of t bib (rs ++ es))) (sym n)
 
-  reads-truth : (bib t : ℕ) → 1 ≤ bib → bib < 4294967296 → begin ≤ t → (p : List Visit) × (walk h new t bib ≡ some p) × ((look new bib t).reads ≡ length p)
+  reads-truth : (bib t : ℕ) → 1 ≤ bib → bib < 4294967296 → begin ≤ t → (p : List Visit) × (walk h new t bib ≡ Some p) × ((look new bib t).reads ≡ length p)
   reads-truth bib t lo hi le =
       let l = calls-look bib t lo hi le in
       (l.0, l.1, ap (λ a. a.reads) l.2 ∙ sheet-reads bib (length l.0) (stands_as_of t bib (rs ++ es)))

@@ -1,6 +1,6 @@
 -- What calls and batches, one after the other, leave on a card, and the entries accepted on the way; and what calls leave on a journal.
 use Rattle.std.specs.Prelude.{◌≡◌, ◌⊎◌, ℕ, zero, suc, ◌+◌, ◌*◌, ◌-◌, ◌≤◌, ◌<◌, List, [], ◌∷◌, ◌++◌, length, get_or, replicate}
-use Rattle.std.proofs.Math.Option.{some}
+use Rattle.std.specs.Prelude.{Some}
 use Rattle.rules.specs.declared.Entry.{Entry}
 use Rattle.rules.specs.declared.Head.{Head}
 use Rattle.rules.specs.declared.Answer.{Answer}
@@ -21,7 +21,7 @@ Accepted card k = (called card k).answer.code ≡ 0
 abbrev pub Formatted : Head → List ℕ → Type 0
 Formatted h card =
     (blank : List ℕ) × (n : ℕ) × (m : ℕ) × (td : ℕ) × (ti : ℕ)
-    × Accepted blank (format_call n m td ti) × ((called blank (format_call n m td ti)).card ≡ card) × (head_of card ≡ some h)
+    × Accepted blank (format_call n m td ti) × ((called blank (format_call n m td ti)).card ≡ card) × (head_of card ≡ Some h)
 
 -- the elements of a card or a buffer are bytes
 abbrev pub OfBytes : List ℕ → Type 0
@@ -32,7 +32,7 @@ OfBytes bytes = (i : ℕ) → get_or bytes i 0 < 256
 abbrev pub Seasoned : Head → ℕ → List Entry → List ℕ → Type 0
 Seasoned h t rs card =
     (source : List ℕ) × (target : List ℕ) × (n : ℕ) × (m : ℕ) × (td : ℕ) × (ti : ℕ)
-    × OfBytes source × (t < 4294967296) × (season source t target n m td ti ≡ accept card) × (head_of card ≡ some h) × ((standing_at source t).records ≡ rs)
+    × OfBytes source × (t < 4294967296) × (season source t target n m td ti ≡ accept card) × (head_of card ≡ Some h) × ((standing_at source t).records ≡ rs)
 
 -- how a card of ours begins, with its head, its beginning and the records it has then: formatted, or as a season card
 abbrev pub Begun : Head → ℕ → List Entry → List ℕ → Type 0

@@ -1,6 +1,6 @@
 -- What the card promises, over any list of calls and batches: the statements alone, in the rules' own words. Their proofs stand in proofs/.
 use Rattle.std.specs.Prelude.{◌≡◌, ◌⊎◌, true, false, ℕ, ◌+◌, ◌*◌, ◌/◌, ◌≤◌, ◌<◌, List, [], ◌∷◌, ◌++◌, length, replicate}
-use Rattle.std.proofs.Math.Option.{Option, none, some}
+use Rattle.std.specs.Prelude.{Option, None, Some}
 use Rattle.std.specs.Borrow.{Bor}
 use Rattle.rules.specs.declared.Entry.{Entry}
 use Rattle.rules.specs.declared.Head.{Head}
@@ -47,13 +47,13 @@ abbrev pub ReadsCountThePath : Type 0
 ReadsCountThePath =
     (h : Head) (begin : ℕ) (rs : List Entry) (card : List ℕ) → Begun h begin rs card → (calls : List Act) → AllSized calls
     → (bib t : ℕ) → 1 ≤ bib → bib < 4294967296 → begin ≤ t
-    → (p : List Visit) × (walk h (card_after card calls) t bib ≡ some p) × ((look (card_after card calls) bib t).reads ≡ length p)
+    → (p : List Visit) × (walk h (card_after card calls) t bib ≡ Some p) × ((look (card_after card calls) bib t).reads ≡ length p)
 
 -- an answer to next: the end where nothing stands above k, else the smallest bib that does, with its stamp, status and time
 abbrev pub Smallest : (ℕ → Option Entry) → ℕ → Answer → Type 0
 Smallest stands k a =
-    (((b : ℕ) → k < b → b < 4294967296 → stands b ≡ none) × (a ≡ ended))
-    ⊎ ((bib : ℕ) × (e : Entry) × (k < bib) × (stands bib ≡ some e) × ((b : ℕ) → k < b → b < bib → stands b ≡ none)
+    (((b : ℕ) → k < b → b < 4294967296 → stands b ≡ None) × (a ≡ ended))
+    ⊎ ((bib : ℕ) × (e : Entry) × (k < bib) × (stands bib ≡ Some e) × ((b : ℕ) → k < b → b < bib → stands b ≡ None)
     × (a ≡ answer 0 bib e.stamp e.status e.value 0))
 
 -- 2. A next answers the smallest bib above k that stands as of t by the same reading as a look's; the end exactly when none does.
@@ -121,7 +121,7 @@ SeasonOverwritesNothing =
 -- a call that writes e is accepted where the fresh buckets needed remain, and else refused with 6
 abbrev pub TakenUnlessFull : Head → List ℕ → Entry → Call → Type 0
 TakenUnlessFull h card e k =
-    (p : List Visit) × (walk h card latest e.key ≡ some p)
+    (p : List Visit) × (walk h card latest e.key ≡ Some p)
     × (((needed h card e p ≤ remaining h card) × Accepted card k)
     ⊎ ((remaining h card < needed h card e p) × ((called card k).answer.code ≡ 6)))
 
@@ -139,8 +139,8 @@ abbrev pub StrikeIsTaken : Type 0
 StrikeIsTaken =
     (h : Head) (begin : ℕ) (rs : List Entry) (card : List ℕ) → Begun h begin rs card → (calls : List Act) → AllSized calls
     → (bib at : ℕ) → 1 ≤ bib → begin < at → Sized (strike_call bib at) → Above at (accepted card calls)
-    → ((stands_as_of latest bib (rs ++ accepted card calls) ≡ none) × ((called (card_after card calls) (strike_call bib at)).answer.code ≡ 5))
-    ⊎ ((stands_as_of latest bib (rs ++ accepted card calls) ≡ none → ⊥)
+    → ((stands_as_of latest bib (rs ++ accepted card calls) ≡ None) × ((called (card_after card calls) (strike_call bib at)).answer.code ≡ 5))
+    ⊎ ((stands_as_of latest bib (rs ++ accepted card calls) ≡ None → ⊥)
     × TakenUnlessFull h (card_after card calls) (strike_entry bib at) (strike_call bib at))
 
 -- So is a season as of a stamp from the beginning on, onto a blank target that has the length for numbers within the limits: it is accepted
@@ -327,7 +327,7 @@ JournalAnswersAlike =
 -- 16. A journal that only its calls wrote holds the entries that it accepted, in the order of their arrival, and no other.
 abbrev pub JournalHoldsTheAccepted : Type 0
 JournalHoldsTheAccepted =
-    (sectors : ℕ) (asks : List Ask) → AsksSized asks → journal (journal_after (blank_slice sectors) asks) ≡ some (accepted_in (blank_slice sectors) asks)
+    (sectors : ℕ) (asks : List Ask) → AsksSized asks → journal (journal_after (blank_slice sectors) asks) ≡ Some (accepted_in (blank_slice sectors) asks)
 
 -- Look and next of it are the plain reading of these entries, whatever a card would have answered.
 abbrev pub JournalTellsTheTruth : Type 0
@@ -353,11 +353,11 @@ TakenIfBlank slice q = (SomeBlank slice × ((noted slice q).answer.code ≡ 0)) 
 -- accepted exactly where a sector is blank, and else refused with 6; a strike likewise, where something stands, and where nothing does it is refused with 5.
 abbrev pub JournalTakesUntilFull : Type 0
 JournalTakesUntilFull =
-    (slice : List ℕ) (entries : List Entry) → journal slice ≡ some entries
+    (slice : List ℕ) (entries : List Entry) → journal slice ≡ Some entries
     → (bib at status time : ℕ) → 1 ≤ bib → 1 ≤ at → status_fits status time ≡ true → Above at entries
     → TakenIfBlank slice (post_ask bib at status time)
-    × (((stands_as_of latest bib entries ≡ none) × ((noted slice (strike_ask bib at)).answer.code ≡ 5))
-    ⊎ ((stands_as_of latest bib entries ≡ none → ⊥) × TakenIfBlank slice (strike_ask bib at)))
+    × (((stands_as_of latest bib entries ≡ None) × ((noted slice (strike_ask bib at)).answer.code ≡ 5))
+    ⊎ ((stands_as_of latest bib entries ≡ None → ⊥) × TakenIfBlank slice (strike_ask bib at)))
 
 -- And 6 is given only where no sector is blank, on every slice.
 abbrev pub SixMeansFull : Type 0

@@ -1,6 +1,6 @@
 -- The plain reading of a list of entries, in words of its own: nothing here is taken from the walk, so that a wrong walk cannot move both sides.
 use Rattle.std.specs.Prelude.{ℕ, true, false, List, [], ◌∷◌, leb, eqb}
-use Rattle.std.proofs.Math.Option.{Option, none, some}
+use Rattle.std.specs.Prelude.{Option, None, Some}
 use Rattle.rules.specs.declared.Entry.{Entry}
 
 -- the entries stamped t or earlier
@@ -19,18 +19,18 @@ said_of bib t es = entries_for bib (up_to t es)
 
 -- of an entry and the last one for the bib behind it: that one, or the entry itself if it is for the bib
 unfoldable pub last_from : ℕ → Entry → Option Entry → Option Entry
-last_from bib e none = elim (eqb e.key bib) [ true ↦ some e | false ↦ none ]
-last_from bib e (some d) = some d
+last_from bib e None = elim (eqb e.key bib) [ true ↦ Some e | false ↦ None ]
+last_from bib e (Some d) = Some d
 
 -- the last entry for the bib
 unfoldable pub last_for : ℕ → List Entry → Option Entry
-last_for bib [] = none
+last_for bib [] = None
 last_for bib (e ∷ es) = last_from bib e (last_for bib es)
 
 -- it stands if it is a post; a strike, or no entry, is none
 unfoldable pub if_post : Option Entry → Option Entry
-if_post none = none
-if_post (some e) = elim (eqb e.kind 1) [ true ↦ some e | false ↦ none ]
+if_post None = None
+if_post (Some e) = elim (eqb e.kind 1) [ true ↦ Some e | false ↦ None ]
 
 -- what stands for a bib as of t: its last entry stamped t or earlier, if that is a post
 unfoldable pub stands_as_of : ℕ → ℕ → List Entry → Option Entry

@@ -1,33 +1,30 @@
 // The function over the path: it calls itself for the parent level with the new pairs, until a level has room or the root itself is rewritten.
 #![tactic(auto)]
 
-ghost use Rattle.std.specs.Prelude.{◌≡◌, ◌+◌, ◌≤◌, length, drop};
+ghost use Rattle.std.specs.Prelude.{◌≡◌, ◌+◌, ◌≤◌, length};
 ghost use Rattle.level.specs.Level.{sent_list, AllSmall};
 ghost use Rattle.climb.specs.Levels.{risen, rise_on, topped, Ready};
 
+use bucket::Card;
 use level::Sent;
 use rules::Head;
 
-// What was sent goes into the bucket of level `at`, or that bucket is rewritten and its pairs go on. The levels left are the path's from `at` on; the call of itself comes last, and no hand lies in this frame.
-pub fn rise(card: &mut [u8], path: &[u32], at: usize, p: Sent, fresh: usize, head: Head, stamp: u32)
-    requires ready { Ready head card.old (drop at path.now) fresh × AllSmall (sent_list p) × (at ≤ length path.now) }
-    requires card_bound { (topped head stamp (rise_on head stamp (drop at path.now) (risen (sent_list p) fresh card.old))).fresh ≤ head.n + 1 }
-    ensures { card.new ≡ (topped head stamp (rise_on head stamp (drop at path.now) (risen (sent_list p) fresh card.old))).card }
+// What was sent goes into the bucket of the lowest level left, or that bucket is rewritten and its pairs go on to the levels above. The call of itself comes last, and no hand lies in this frame.
+pub fn rise(card: &mut [u8], levels: &[u32], p: Sent, fresh: usize, head: Head, stamp: u32)
+    requires ready { Ready head card.old levels.now fresh × AllSmall (sent_list p) }
+    requires card_bound { (topped head stamp (rise_on head stamp levels.now (risen (sent_list p) fresh card.old))).fresh ≤ head.n + 1 }
+    ensures { card.new ≡ (topped head stamp (rise_on head stamp levels.now (risen (sent_list p) fresh card.old))).card }
 {
-    if path.len() <= at {
+    let [b, above @ ..] = levels else {
         climb::new_root(card, head, p, fresh, stamp);
         return;
-    }
-    let b = path[at];
-    let m = head.m;
-    let used = climb::used_in(card, head, b);
-    let k = level::sent_count(p);
-    if used + k <= m {
-        climb::write_in(card, head, b, used, p);
+    };
+    let used = climb::used_in(&Card { bytes: card, head }, *b);
+    if used + level::sent_count(p) <= head.m {
+        climb::write_in(card, head, *b, used, p);
         return;
     }
-    let r = climb::rewrite(card, head, b, used, p, fresh, stamp);
+    let r = climb::rewrite(card, head, *b, used, p, fresh, stamp);
     let sent = r.sent;
-    let next = r.fresh;
-    rise(card, path, at + 1, sent, next, head, stamp);
+    rise(card, above, sent, r.fresh, head, stamp);
 }

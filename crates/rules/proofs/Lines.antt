@@ -2,7 +2,7 @@
 use Prim.Native.Nat.{ℕ, suc}
 use mathlib.Core.Bool.{Bool, true, false}
 use mathlib.Core.List.{List, [], ◌∷◌}
-use mathlib.Core.Option.{Option, none, some}
+use Rattle.std.specs.Prelude.{Option, None, Some}
 use lib.Dec.{eqb}
 use Rattle.rules.specs.declared.Head.{Head}
 use Rattle.rules.specs.declared.Entry.{Entry}
@@ -73,16 +73,16 @@ many [] = 0
 many (s ∷ ss) = suc (many ss)
 
 unfoldable pub holds_in : List ℕ → Option Head → ℕ → List Sector → Bool
-holds_in card none b ss = false
-holds_in card (some h) b ss = eqb (many ss) h.m & lie h.n card (base h b) ss
+holds_in card None b ss = false
+holds_in card (Some h) b ss = eqb (many ss) h.m & lie h.n card (base h b) ss
 
 unfoldable pub logs_in : List ℕ → Option Head → List Sector → Bool
-logs_in card none ss = false
-logs_in card (some h) ss = lie h.n card 1 ss
+logs_in card None ss = false
+logs_in card (Some h) ss = lie h.n card 1 ss
 
 unfoldable pub used_in : List ℕ → Option Head → ℕ → Bool
-used_in card none k = false
-used_in card (some h) k = eqb (top_used h card h.n) k
+used_in card None k = false
+used_in card (Some h) k = eqb (top_used h card h.n) k
 
 unfoldable pub same_digits : Digits → ℕ → List ℕ → Bool
 same_digits d c ps = eqb d.code c & same d.places ps

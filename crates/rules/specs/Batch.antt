@@ -1,6 +1,6 @@
 -- A morning's results at once: requests of sixteen bytes "in the sector layout", and a byte for each answer.
 use Rattle.std.specs.Prelude.{ℕ, zero, suc, ◌/◌, ◌%◌, Bool, not, List, [], ◌∷◌, length, take, drop, eqb}
-use Rattle.std.proofs.Math.Option.{Option, none, some}
+use Rattle.std.specs.Prelude.{Option, None, Some}
 use Rattle.rules.specs.declared.Head.{Head}
 use Rattle.rules.specs.Plain.{if, ◌&◌, ◌or◌, zeros}
 use Rattle.rules.specs.Sector.{sector_at, fields, is_post}
@@ -16,8 +16,8 @@ well_asked r =
 
 -- 11 is "after 1 and ahead of 2"; else a request is answered as post and strike are
 unfoldable pub request_for : List ℕ → List ℕ → Option Head → Plan
-request_for card r none = refuse 1
-request_for card r (some h) = refuse_if (not (well_asked r)) 11 (plan card (fields r))
+request_for card r None = refuse 1
+request_for card r (Some h) = refuse_if (not (well_asked r)) 11 (plan card (fields r))
 
 unfoldable pub request : List ℕ → List ℕ → Plan
 request card r = request_for card r (head_of card)

@@ -2,7 +2,7 @@
 use Rattle.std.specs.Prelude.{ℕ, zero, suc, ◌+◌, ◌*◌, ◌-◌, ◌/◌, ◌%◌, Bool, true, false, List, [], ◌∷◌, ◌++◌, replicate, leb, ltb, eqb}
 use Prim.Native.Char.{code}
 use Prim.Native.String as S
-use Rattle.std.proofs.Math.Option.{Option, none, some}
+use Rattle.std.specs.Prelude.{Option, None, Some}
 use Rattle.rules.specs.declared.Answer.{Answer}
 use Rattle.rules.specs.Plain.{if, and_then, within}
 use Rattle.rules.specs.Layout.{size_of}
@@ -18,9 +18,9 @@ text (S.◌∷◌ c s) = code c ∷ text s
 
 -- what follows the name at the start of a line, if it stands there
 unfoldable pub behind : List ℕ → List ℕ → Option (List ℕ)
-behind [] line = some line
-behind (x ∷ xs) [] = none
-behind (x ∷ xs) (y ∷ ys) = elim (eqb x y) [ true ↦ behind xs ys | false ↦ none ]
+behind [] line = Some line
+behind (x ∷ xs) [] = None
+behind (x ∷ xs) (y ∷ ys) = elim (eqb x y) [ true ↦ behind xs ys | false ↦ None ]
 
 -- the digits at the start of a line, and what follows them
 unfoldable pub is_digit : ℕ → Bool
@@ -41,19 +41,19 @@ number_on acc (x ∷ xs) = number_on (acc * 10 + (x - 48)) xs
 
 -- "Numbers are plain decimals to 4294967295 without leading zeros"
 unfoldable pub up_to32 : ℕ → Option ℕ
-up_to32 x = if (leb x 4294967295) (some x) none
+up_to32 x = if (leb x 4294967295) (Some x) None
 
 unfoldable pub number : List ℕ → Option ℕ
-number [] = none
+number [] = None
 number (x ∷ []) = up_to32 (x - 48)
-number (x ∷ y ∷ ys) = if (eqb x 48) none (up_to32 (number_on 0 (x ∷ y ∷ ys)))
+number (x ∷ y ∷ ys) = if (eqb x 48) None (up_to32 (number_on 0 (x ∷ y ∷ ys)))
 
 -- each name in turn with a number behind it, and nothing after: those numbers
 unfoldable pub numbers : List (List ℕ) → List ℕ → Option (List ℕ)
-numbers [] [] = some []
-numbers [] (x ∷ xs) = none
+numbers [] [] = Some []
+numbers [] (x ∷ xs) = None
 numbers (name ∷ names) line =
-    and_then (behind name line) (λ rest. and_then (number (digits rest)) (λ x. and_then (numbers names (beyond rest)) (λ xs. some (x ∷ xs))))
+    and_then (behind name line) (λ rest. and_then (number (digits rest)) (λ x. and_then (numbers names (beyond rest)) (λ xs. Some (x ∷ xs))))
 
 -- "The ops, their fields and the order of these are those shown below and no others, one space between"
 unfoldable pub format_names : List (List ℕ)
@@ -73,22 +73,22 @@ next_names = text "op=next bib=" ∷ text " at=" ∷ []
 
 -- as many numbers as the call has
 unfoldable pub two : (ℕ → ℕ → Call) → List ℕ → Option Call
-two f [] = none
-two f (a ∷ []) = none
-two f (a ∷ b ∷ []) = some (f a b)
-two f (a ∷ b ∷ c ∷ xs) = none
+two f [] = None
+two f (a ∷ []) = None
+two f (a ∷ b ∷ []) = Some (f a b)
+two f (a ∷ b ∷ c ∷ xs) = None
 
 unfoldable pub three : (ℕ → ℕ → ℕ → Call) → List ℕ → Option Call
-three f [] = none
+three f [] = None
 three f (a ∷ xs) = two (f a) xs
 
 unfoldable pub four : (ℕ → ℕ → ℕ → ℕ → Call) → List ℕ → Option Call
-four f [] = none
+four f [] = None
 four f (a ∷ xs) = three (f a) xs
 
 unfoldable pub or_try : Option Call → Option Call → Option Call
-or_try none k = k
-or_try (some c) k = some c
+or_try None k = k
+or_try (Some c) k = Some c
 
 -- the call that a line, without its newline, asks for
 unfoldable pub parsed : List ℕ → Option Call
@@ -119,8 +119,8 @@ bench_call (x ∷ card) k = called (x ∷ card) k
 
 -- 10: "not a line of its grammar"
 unfoldable pub bench_done : List ℕ → Option Call → Done
-bench_done card none = answered card (refused 10)
-bench_done card (some k) = bench_call card k
+bench_done card None = answered card (refused 10)
+bench_done card (Some k) = bench_call card k
 
 unfoldable pub bench_line : List ℕ → List ℕ → Done
 bench_line card line = bench_done card (parsed line)

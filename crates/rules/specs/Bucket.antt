@@ -1,6 +1,6 @@
 -- What a bucket or the log holds, and when it is damaged.
 use Rattle.std.specs.Prelude.{ℕ, zero, suc, Bool, true, false, List, [], ◌∷◌, leb}
-use Rattle.std.proofs.Math.Option.{Option, none, some}
+use Rattle.std.specs.Prelude.{Option, None, Some}
 use Rattle.rules.specs.declared.Entry.{Entry}
 use Rattle.rules.specs.declared.Head.{Head}
 use Rattle.rules.specs.declared.Sector.{Sector}
@@ -11,22 +11,22 @@ use Rattle.rules.specs.Layout.{base}
 
 -- a written sector stands before a run of entries, a blank one before blanks alone
 unfoldable pub onto : Sector → Option (List Entry) → Option (List Entry)
-onto Blank none = none
-onto Blank (some []) = some []
-onto Blank (some (e ∷ es)) = none
-onto (Held e) none = none
-onto (Held e) (some es) = some (e ∷ es)
-onto Damaged r = none
+onto Blank None = None
+onto Blank (Some []) = Some []
+onto Blank (Some (e ∷ es)) = None
+onto (Held e) None = None
+onto (Held e) (Some es) = Some (e ∷ es)
+onto Damaged r = None
 
 -- "its written sectors are a run from its start [..] then blanks": the entries of the c sectors from sector i, or none, which is damage
 unfoldable pub run : ℕ → List ℕ → ℕ → ℕ → Option (List Entry)
-run n card i zero = some []
+run n card i zero = Some []
 run n card i (suc c) = onto (decode n (sector_at card i)) (run n card (suc i) c)
 
 -- "at least one"; "The log must hold only kind 4"
 unfoldable pub sound_log : List Entry → Option (List Entry)
-sound_log [] = none
-sound_log (e ∷ es) = if (every is_root (e ∷ es)) (some (e ∷ es)) none
+sound_log [] = None
+sound_log (e ∷ es) = if (every is_root (e ∷ es)) (Some (e ∷ es)) None
 
 unfoldable pub log : Head → List ℕ → Option (List Entry)
 log h card = and_then (run h.n card 1 h.n) sound_log
@@ -37,11 +37,11 @@ joins h e = if (is_index h) (is_index e) (is_data e) & leb h.key e.key
 
 -- "only kind 3 or only kinds 1 and 2, and no key below its first key, its header"
 unfoldable pub sound_bucket : List Entry → Option (List Entry)
-sound_bucket [] = none
-sound_bucket (h ∷ es) = if (every (joins h) (h ∷ es)) (some (h ∷ es)) none
+sound_bucket [] = None
+sound_bucket (h ∷ es) = if (every (joins h) (h ∷ es)) (Some (h ∷ es)) None
 
 unfoldable pub bucket : Head → List ℕ → ℕ → Option (List Entry)
-bucket h card zero = none
+bucket h card zero = None
 bucket h card (suc b) = and_then (run h.n card (base h (suc b)) h.m) sound_bucket
 
 -- the blank ones of the c sectors from sector i, in order; those of bucket b, and of the log

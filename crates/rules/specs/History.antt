@@ -1,6 +1,6 @@
 -- History: everything ever said of one bib.
 use Rattle.std.specs.Prelude.{ℕ, zero, suc, ◌+◌, ◌*◌, Bool, List, [], ◌∷◌, length, leb, ltb, eqb}
-use Rattle.std.proofs.Math.Option.{Option, none, some}
+use Rattle.std.specs.Prelude.{Option, None, Some}
 use Rattle.rules.specs.declared.Entry.{Entry}
 use Rattle.rules.specs.declared.Head.{Head}
 use Rattle.rules.specs.declared.Sector.{Sector}
@@ -13,13 +13,13 @@ use Rattle.rules.specs.Records.{Roll, roll}
 -- "4 for a damaged or kind 4 sector anywhere in the bucket area": a sector and the entries behind it, or none, which is damage
 unfoldable pub join : Sector → Option (List Entry) → Option (List Entry)
 join Blank r = r
-join (Held e) none = none
-join (Held e) (some es) = if (is_root e) none (some (e ∷ es))
-join Damaged r = none
+join (Held e) None = None
+join (Held e) (Some es) = if (is_root e) None (Some (e ∷ es))
+join Damaged r = None
 
 -- the entries of c sectors from sector i on, blanks left out
 unfoldable pub entries : ℕ → List ℕ → ℕ → ℕ → Option (List Entry)
-entries n card i zero = some []
+entries n card i zero = Some []
 entries n card i (suc c) = join (decode n (sector_at card i)) (entries n card (suc i) c)
 
 -- all that buckets 1..N hold, in the order of their sectors
@@ -44,13 +44,13 @@ unfoldable pub fitting : ℕ → List Entry → Roll
 fitting places es = if (leb (length es) places) (roll 0 es) (roll 15 [])
 
 unfoldable pub history_on : ℕ → ℕ → ℕ → Option (List Entry) → Roll
-history_on bib t places none = roll 4 []
-history_on bib t places (some es) = fitting places (by_stamp (only (says_of bib t) es))
+history_on bib t places None = roll 4 []
+history_on bib t places (Some es) = fitting places (by_stamp (only (says_of bib t) es))
 
 -- "1, 2, 13, then 4 [..], then 15"
 unfoldable pub history_in : List ℕ → ℕ → ℕ → ℕ → Option Head → Roll
-history_in card bib t places none = roll 1 []
-history_in card bib t places (some h) =
+history_in card bib t places None = roll 1 []
+history_in card bib t places (Some h) =
     if (eqb bib 0) (roll 2 []) (if (ltb t (beginning card)) (roll 13 []) (history_on bib t places (area h card)))
 
 -- the entries to be laid down in a buffer of so many sectors, or the number of a refusal

@@ -1,6 +1,6 @@
 -- A plain journal: "accepted entries in arrival order on a lent slice, read through for each question".
 use Rattle.std.specs.Prelude.{ℕ, ◌/◌, ◌%◌, Bool, true, not, List, [], ◌∷◌, length, leb, ltb, eqb}
-use Rattle.std.proofs.Math.Option.{Option, none, some}
+use Rattle.std.specs.Prelude.{Option, None, Some}
 use Rattle.rules.specs.declared.Entry.{Entry}
 use Rattle.rules.specs.declared.Answer.{Answer}
 use Rattle.rules.specs.Plain.{if, ◌&◌, and_then, is_none, last_of}
@@ -19,17 +19,17 @@ rising s (e ∷ es) = is_data e & ltb s e.stamp & rising e.stamp es
 
 -- "from 1"
 unfoldable pub sound_journal : List Entry → Option (List Entry)
-sound_journal es = if (rising 0 es) (some es) none
+sound_journal es = if (rising 0 es) (Some es) None
 
 -- the entries of a journal, or none where it is "not a multiple of 16 long, or not a run of posts and strikes [..], then blanks";
 -- its sectors are those of a card of no buckets
 unfoldable pub journal : List ℕ → Option (List Entry)
-journal slice = if (eqb (length slice % 16) 0) (and_then (run 0 slice 0 (length slice / 16)) sound_journal) none
+journal slice = if (eqb (length slice % 16) 0) (and_then (run 0 slice 0 (length slice / 16)) sound_journal) None
 
 -- the stamp that a new one has to be above: the last entry's, "or 0 where there is none"
 unfoldable pub stamp_in : Option Entry → ℕ
-stamp_in none = 0
-stamp_in (some e) = e.stamp
+stamp_in None = 0
+stamp_in (Some e) = e.stamp
 
 -- what stands for a bib as of t, read through
 unfoldable pub stands_in : ℕ → ℕ → List Entry → Option Entry
@@ -45,8 +45,8 @@ journal_on slice e is = refuse_if (eqb (length is) 0) 6 (accept (fill slice is (
 
 -- 1, 2, 14, 3, 5, 6, as the card has them
 unfoldable pub journal_for : List ℕ → Entry → Option (List Entry) → Plan
-journal_for slice e none = refuse 1
-journal_for slice e (some es) =
+journal_for slice e None = refuse 1
+journal_for slice e (Some es) =
     refuse_if (eqb e.key 0) 2
     (refuse_if (not (status_fits e.status e.value)) 14
     (refuse_if (leb e.stamp (stamp_in (last_of es))) 3
@@ -64,21 +64,21 @@ journal_strike slice bib at = journal_plan slice (strike_entry bib at)
 
 -- 1, then 2 for bib 0; "Reads is 0 there"
 unfoldable pub journal_look_in : ℕ → ℕ → Option (List Entry) → Answer
-journal_look_in bib t none = refused 1
-journal_look_in bib t (some es) = if (eqb bib 0) (refused 2) (sheet bib 0 (stands_in t bib es))
+journal_look_in bib t None = refused 1
+journal_look_in bib t (Some es) = if (eqb bib 0) (refused 2) (sheet bib 0 (stands_in t bib es))
 
 unfoldable pub journal_look : List ℕ → ℕ → ℕ → Answer
 journal_look slice bib t = journal_look_in bib t (journal slice)
 
 -- the record that is next, or the end
 unfoldable pub next_of : Option Entry → Answer
-next_of none = ended
-next_of (some e) = answer 0 e.key e.stamp e.status e.value 0
+next_of None = ended
+next_of (Some e) = answer 0 e.key e.stamp e.status e.value 0
 
 -- 1; else the smallest standing bib above k
 unfoldable pub journal_next_in : ℕ → ℕ → Option (List Entry) → Answer
-journal_next_in k t none = refused 1
-journal_next_in k t (some es) = next_of (standing_above k (left t es))
+journal_next_in k t None = refused 1
+journal_next_in k t (Some es) = next_of (standing_above k (left t es))
 
 unfoldable pub journal_next : List ℕ → ℕ → ℕ → Answer
 journal_next slice k t = journal_next_in k t (journal slice)

@@ -1,6 +1,6 @@
 -- The card's layout: the head in sector 0, its limits, the length, and where the log and the buckets lie.
 use Rattle.std.specs.Prelude.{ℕ, ◌+◌, ◌*◌, ◌-◌, Bool, List, [], ◌∷◌, ◌++◌, length, get_or, eqb}
-use Rattle.std.proofs.Math.Option.{Option, none, some}
+use Rattle.std.specs.Prelude.{Option, None, Some}
 use Rattle.rules.specs.declared.Head.{Head}
 use Rattle.rules.specs.Plain.{if, ◌&◌, within}
 use Rattle.rules.specs.Sector.{sector_at, word, le4}
@@ -25,8 +25,8 @@ head_bytes h begin = 6 ∷ h.m ∷ h.td ∷ h.ti ∷ le4 h.n ++ (le4 begin ++ (0
 unfoldable pub head_in : List ℕ → ℕ → Option Head
 head_in s len =
     if (eqb (get_or s 0 0) 6 & eqb (word s 12) 0 & limits (head_fields s) & eqb len (size_of (head_fields s)))
-    (some (head_fields s))
-    none
+    (Some (head_fields s))
+    None
 
 unfoldable pub head_of : List ℕ → Option Head
 head_of card = head_in (sector_at card 0) (length card)

@@ -3,6 +3,8 @@ pub mod Sector
 pub mod Layout
 pub mod Bucket
 pub mod Walk
+pub mod Refusals
+pub mod Kinds
 pub mod Answers
 pub mod Look
 pub mod Next

@@ -1,6 +1,6 @@
 -- Next: the smallest standing bib above a given one, as of a stamp.
 use Rattle.std.specs.Prelude.{ℕ, zero, suc, List, [], ◌∷◌, ◌++◌, ltb}
-use Rattle.std.proofs.Math.Option.{Option, none, some}
+use Rattle.std.specs.Prelude.{Option, None, Some}
 use Rattle.rules.specs.declared.Entry.{Entry}
 use Rattle.rules.specs.declared.Head.{Head}
 use Rattle.rules.specs.declared.Answer.{Answer}
@@ -35,16 +35,16 @@ pub data Hop : Type 0 where
 
 -- "set X to [it] and walk again. No such key: the end"
 unfoldable pub hop_to : Option Entry → Hop
-hop_to none = final ended
-hop_to (some e) = again e.key
+hop_to None = final ended
+hop_to (Some e) = again e.key
 
 unfoldable pub hop_or : Option Entry → Hop → Hop
-hop_or none h = h
-hop_or (some e) h = final (answer 0 e.key e.stamp e.status e.value 0)
+hop_or None h = h
+hop_or (Some e) h = final (answer 0 e.key e.stamp e.status e.value 0)
 
 unfoldable pub hop : ℕ → ℕ → ℕ → Option (List Visit) → Hop
-hop k t x none = final (refused 4)
-hop k t x (some p) = hop_or (standing_above k (left t (data_of p))) (hop_to (key_above t x p))
+hop k t x None = final (refused 4)
+hop k t x (Some p) = hop_or (standing_above k (left t (data_of p))) (hop_to (key_above t x p))
 
 unfoldable pub hopping : Hop → (ℕ → Answer) → Answer
 hopping (final a) on = a
@@ -57,8 +57,8 @@ next_from wk k t (suc f) x = hopping (hop k t x (wk x)) (next_from wk k t f)
 
 -- 1, then 13 before the beginning, then 4
 unfoldable pub next_in : ℕ → ℕ → List ℕ → Option Head → Answer
-next_in k t card none = refused 1
-next_in k t card (some h) = if (ltb t (beginning card)) (refused 13) (next_from (walk h card t) k t 4294967296 k)
+next_in k t card None = refused 1
+next_in k t card (Some h) = if (ltb t (beginning card)) (refused 13) (next_from (walk h card t) k t 4294967296 k)
 
 unfoldable pub next : List ℕ → ℕ → ℕ → Answer
 next card k t = next_in k t card (head_of card)

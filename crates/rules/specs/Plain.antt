@@ -1,6 +1,6 @@
 -- Plain tools of the rules: choice, and what is asked of a list.
 use Rattle.std.specs.Prelude.{ℕ, zero, suc, Bool, true, false, List, [], ◌∷◌, leb}
-use Rattle.std.proofs.Math.Option.{Option, none, some}
+use Rattle.std.specs.Prelude.{Option, None, Some}
 use Rattle.rules.specs.declared.Entry.{Entry}
 
 infixr 40 ◌&◌
@@ -17,13 +17,13 @@ abbrev pub ◌or◌ : Bool → Bool → Bool
 ◌or◌ true b = true
 ◌or◌ false b = b
 
-abbrev pub and_then {ℓ} : {A B : Type ℓ} → Option A → (A → Option B) → Option B
-and_then none f = none
-and_then (some a) f = f a
+abbrev pub and_then : {A B : Type 0} → Option A → (A → Option B) → Option B
+and_then None f = None
+and_then (Some a) f = f a
 
 unfoldable pub is_none : Option Entry → Bool
-is_none none = true
-is_none (some e) = false
+is_none None = true
+is_none (Some e) = false
 
 -- lo, x and hi in this order, each not above the next
 unfoldable pub within : ℕ → ℕ → ℕ → Bool
@@ -50,24 +50,24 @@ only p [] = []
 only p (e ∷ es) = keep_if (p e) e (only p es)
 
 unfoldable pub last_of : List Entry → Option Entry
-last_of [] = none
-last_of (e ∷ []) = some e
+last_of [] = None
+last_of (e ∷ []) = Some e
 last_of (e ∷ d ∷ es) = last_of (d ∷ es)
 
 -- of e and the best of what follows it: the larger key, and of one key the later copy
 unfoldable pub larger : Entry → Option Entry → Option Entry
-larger e none = some e
-larger e (some d) = if (leb e.key d.key) (some d) (some e)
+larger e None = Some e
+larger e (Some d) = if (leb e.key d.key) (Some d) (Some e)
 
 unfoldable pub largest : List Entry → Option Entry
-largest [] = none
+largest [] = None
 largest (e ∷ es) = larger e (largest es)
 
 -- the same for the smaller key
 unfoldable pub smaller : Entry → Option Entry → Option Entry
-smaller e none = some e
-smaller e (some d) = if (leb d.key e.key) (some d) (some e)
+smaller e None = Some e
+smaller e (Some d) = if (leb d.key e.key) (Some d) (Some e)
 
 unfoldable pub smallest : List Entry → Option Entry
-smallest [] = none
+smallest [] = None
 smallest (e ∷ es) = smaller e (smallest es)

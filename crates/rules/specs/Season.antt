@@ -1,6 +1,6 @@
 -- The season card: what stands as of a stamp goes on to a blank second card.
 use Rattle.std.specs.Prelude.{ℕ, zero, suc, ◌+◌, ◌-◌, ◌*◌, ◌/◌, not, List, [], ◌∷◌, length, take, drop, ltb, eqb}
-use Rattle.std.proofs.Math.Option.{Option, none, some}
+use Rattle.std.specs.Prelude.{Option, None, Some}
 use Rattle.rules.specs.declared.Entry.{Entry}
 use Rattle.rules.specs.declared.Head.{Head}
 use Rattle.rules.specs.Plain.{◌&◌, zeros}
@@ -74,8 +74,8 @@ season_to h t target r =
 
 -- 1, then 13: "as-of before the beginning"; "the target's 8 and 9 come after the source's 1 and 13"
 unfoldable pub season_for : List ℕ → ℕ → List ℕ → Head → Option Head → Plan
-season_for card t target th none = refuse 1
-season_for card t target th (some h) = refuse_if (ltb t (beginning card)) 13 (season_to th t target (standing_at card t))
+season_for card t target th None = refuse 1
+season_for card t target th (Some h) = refuse_if (ltb t (beginning card)) 13 (season_to th t target (standing_at card t))
 
 unfoldable pub season : List ℕ → ℕ → List ℕ → ℕ → ℕ → ℕ → ℕ → Plan
 season card t target n m td ti = season_for card t target (meant n m td ti) (head_of card)

@@ -46,6 +46,9 @@ root_entry at bucket = record { kind = 4; status = 0; key = 0; stamp = at; value
 unfoldable pub is_post : Entry → Bool
 is_post e = eqb e.kind 1
 
+unfoldable pub is_strike : Entry → Bool
+is_strike e = eqb e.kind 2
+
 unfoldable pub is_data : Entry → Bool
 is_data e = eqb e.kind 1 or eqb e.kind 2
 

@@ -1,6 +1,6 @@
 -- What a card that is opened again says of itself.
 use Rattle.std.specs.Prelude.{ℕ, List}
-use Rattle.std.proofs.Math.Option.{Option, none, some}
+use Rattle.std.specs.Prelude.{Option, None, Some}
 use Rattle.rules.specs.declared.Head.{Head}
 use Rattle.rules.specs.declared.State.{State}
 use Rattle.rules.specs.Layout.{head_of, beginning}
@@ -16,8 +16,8 @@ no_state c = record { code = c; buckets = 0; sectors = 0; td = 0; ti = 0; begin 
 
 -- 1; else the stamp that answer 3 asks a new one to be above, and the bucket that fresh ones are numbered past
 unfoldable pub state_in : List ℕ → Option Head → State
-state_in card none = no_state 1
-state_in card (some h) = state_of h (beginning card) (stamp_on h card) (top_used h card h.n)
+state_in card None = no_state 1
+state_in card (Some h) = state_of h (beginning card) (stamp_on h card) (top_used h card h.n)
 
 unfoldable pub state : List ℕ → State
 state card = state_in card (head_of card)

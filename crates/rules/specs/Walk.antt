@@ -1,6 +1,6 @@
 -- The walk to a key as of a stamp.
 use Rattle.std.specs.Prelude.{ℕ, zero, suc, List, [], ◌∷◌, leb, eqb}
-use Rattle.std.proofs.Math.Option.{Option, none, some}
+use Rattle.std.specs.Prelude.{Option, None, Some}
 use Rattle.rules.specs.declared.Entry.{Entry}
 use Rattle.rules.specs.declared.Head.{Head}
 use Rattle.rules.specs.Plain.{if, only, last_of, largest}
@@ -32,8 +32,8 @@ pub data Turn : Type 0 where
 
 -- "no index key left that is not above the key sought [..] is damage"
 unfoldable pub down_to : Option Entry → Turn
-down_to none = broken
-down_to (some e) = down e
+down_to None = broken
+down_to (Some e) = down e
 
 -- "a bucket whose header is not the key followed to it [..] is damage": k is that key
 unfoldable pub turn : ℕ → ℕ → ℕ → List Entry → Turn
@@ -41,31 +41,31 @@ turn t x k [] = broken
 turn t x k (h ∷ es) = if (eqb h.key k) (if (is_index h) (down_to (follow x (left t (h ∷ es)))) arrived) broken
 
 unfoldable pub met : Visit → Option (List Visit) → Option (List Visit)
-met v none = none
-met v (some p) = some (v ∷ p)
+met v None = None
+met v (Some p) = Some (v ∷ p)
 
 unfoldable pub go : Visit → Turn → (ℕ → ℕ → Option (List Visit)) → Option (List Visit)
-go v broken on = none
-go v arrived on = some (v ∷ [])
+go v broken on = None
+go v arrived on = Some (v ∷ [])
 go v (down e) on = met v (on e.value e.key)
 
 unfoldable pub go_in : ℕ → ℕ → ℕ → ℕ → Option (List Entry) → (ℕ → ℕ → Option (List Visit)) → Option (List Visit)
-go_in t x b k none on = none
-go_in t x b k (some es) on = go (record { number = b; entries = es }) (turn t x k es) on
+go_in t x b k None on = None
+go_in t x b k (Some es) on = go (record { number = b; entries = es }) (turn t x k es) on
 
 -- the path from bucket b, of f buckets at most, root first; none is damage
 unfoldable pub path : (ℕ → Option (List Entry)) → ℕ → ℕ → ℕ → ℕ → ℕ → Option (List Visit)
-path rd t x zero b k = none
+path rd t x zero b k = None
 path rd t x (suc f) b k = go_in t x b k (rd b) (path rd t x f)
 
 -- "Start at the bucket of the last root entry left"; "No entry left in the log [..] is damage"
 unfoldable pub path_from : (ℕ → Option (List Entry)) → ℕ → ℕ → ℕ → Option Entry → Option (List Visit)
-path_from rd t x f none = none
-path_from rd t x f (some r) = path rd t x f r.value 0
+path_from rd t x f None = None
+path_from rd t x f (Some r) = path rd t x f r.value 0
 
 unfoldable pub path_in : (ℕ → Option (List Entry)) → ℕ → ℕ → ℕ → Option (List Entry) → Option (List Visit)
-path_in rd t x f none = none
-path_in rd t x f (some es) = path_from rd t x f (last_of (left t es))
+path_in rd t x f None = None
+path_in rd t x f (Some es) = path_from rd t x f (last_of (left t es))
 
 -- the walk to x as of t; "N buckets read without reaching data, is damage"
 unfoldable pub walk : Head → List ℕ → ℕ → ℕ → Option (List Visit)
@@ -79,8 +79,8 @@ data_of (v ∷ w ∷ p) = data_of (w ∷ p)
 
 -- "the last copy of the key decides; a strike or no copy means none"
 unfoldable pub standing : Option Entry → Option Entry
-standing none = none
-standing (some e) = if (is_post e) (some e) none
+standing None = None
+standing (Some e) = if (is_post e) (Some e) None
 
 unfoldable pub stands_on : ℕ → ℕ → List Visit → Option Entry
 stands_on t x p = standing (copy_of x (left t (data_of p)))

@@ -1,6 +1,6 @@
 -- Post and strike: what is refused, and else the card afterwards.
 use Rattle.std.specs.Prelude.{ℕ, zero, suc, ◌+◌, ◌*◌, max, Bool, true, false, not, List, [], ◌∷◌, ◌++◌, length, get_or, leb, ltb, eqb}
-use Rattle.std.proofs.Math.Option.{Option, none, some}
+use Rattle.std.specs.Prelude.{Option, None, Some}
 use Rattle.rules.specs.declared.Entry.{Entry}
 use Rattle.rules.specs.declared.Head.{Head}
 use Rattle.rules.specs.declared.Answer.{Answer}
@@ -96,13 +96,13 @@ latest = 4294967295
 
 -- 4, then 5: a strike where nothing stands
 unfoldable pub plan_at : Head → List ℕ → Entry → Option (List Visit) → Plan
-plan_at h card e none = refuse 4
-plan_at h card e (some p) = refuse_if (not (is_post e) & is_none (stands_on latest e.key p)) 5 (plan_on h card e p)
+plan_at h card e None = refuse 4
+plan_at h card e (Some p) = refuse_if (not (is_post e) & is_none (stands_on latest e.key p)) 5 (plan_on h card e p)
 
 -- 1, 2, 14 ("a status above 3, or a nonzero time beside status 1 to 3"), 3, then 4 and on
 unfoldable pub plan_for : List ℕ → Entry → Option Head → Plan
-plan_for card e none = refuse 1
-plan_for card e (some h) =
+plan_for card e None = refuse 1
+plan_for card e (Some h) =
     refuse_if (eqb e.key 0) 2
     (refuse_if (not (status_fits e.status e.value)) 14
     (refuse_if (leb e.stamp (stamp_on h card)) 3

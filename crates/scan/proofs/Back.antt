@@ -1,23 +1,18 @@
 -- The pass from the last sector down gives what the scan from the first on gives; and its turns, as the code has the numbers.
 use mathlib.Core.Path.{◌≡◌, refl, ap, sym, ◌∙◌}
 use mathlib.Core.Bool.{Bool, true, false}
-use mathlib.Core.Logic.{⊎_elim}
 use Prim.Native.Nat.{ℕ, zero, suc, ◌+◌, ◌-◌, ◌<◌}
 use native.Mathlib.Omega.{arith}
 use mathlib.Core.List.{List, [], ◌∷◌, reverse_aux}
 use lib.ListN.{take, drop}
-use types.Run.{OneOf}
-use denote.Enum.Declared.{tag_of}
+use Rattle.std.specs.Prelude.{Option, None, Some, Ok}
 use Rattle.rules.specs.declared.Entry.{Entry}
 use Rattle.rules.specs.declared.Sector.{Sector}
 use Rattle.rules.specs.declared.Sector.TheVariants.{Blank, Held, Damaged}
 use Rattle.rules.specs.Plain.{if, ◌&◌, zeros}
 use Rattle.rules.specs.Sector.{sector_at, decode, fields, legal}
-use Rattle.rules.specs.contracts.Sector.{the_type}
 use Rattle.laws.proofs.Tools.{true-false}
-use Rattle.scan.specs.declared.Found.{Found}
-use Rattle.scan.specs.declared.Found.TheVariants.{Damage, Nothing, Hit}
-use Rattle.scan.specs.Scan.{sectors, all_blank, scan_in}
+use Rattle.scan.specs.Scan.{Found, damaged, sectors, all_blank, scan_in}
 use Rattle.scan.specs.Back.{last_first, written, holds, sound, first_in}
 
 -- the sectors from the i-th on, turned round onto those before it
@@ -26,16 +21,20 @@ unfolding sectors last_first
 turned n part i zero m is = let all : i ≡ m = omega arith in ap (last_first n part) all
 turned n part i (suc c) m is = turned n part (suc i) c m (omega arith)
 
+ok-if : (b : Bool) (e : Entry) (best : Option Entry) → let got : Found = Ok (if b (Some e) best) in if b (Ok (Some e)) (Ok best) ≡ got
+ok-if true e best = refl
+ok-if false e best = refl
+
 module _ (ok want : Entry → Bool) where
   -- an entry met, by what is asked of it
-  met-unsound : (e : Entry) (fits wanted rest : Bool) (below : Found) → (fits & rest) ≡ false → (rest ≡ false → below ≡ Damage)
-      → if fits (if wanted (if rest (Hit e) Damage) below) Damage ≡ Damage
+  met-unsound : (e : Entry) (fits wanted rest : Bool) (below : Found) → (fits & rest) ≡ false → (rest ≡ false → below ≡ damaged)
+      → if fits (if wanted (if rest (Ok (Some e)) damaged) below) damaged ≡ damaged
   met-unsound e true true true below h on = absurd (true-false h)
   met-unsound e true true false below h on = refl
   met-unsound e true false rest below h on = on h
   met-unsound e false wanted rest below h on = refl
 
-  unsound-first : (ss : List Sector) → sound ok ss ≡ false → first_in ok want ss ≡ Damage
+  unsound-first : (ss : List Sector) → sound ok ss ≡ false → first_in ok want ss ≡ damaged
   unfolding holds sound first_in
   unsound-first [] h = absurd (true-false h)
   unsound-first (Blank ∷ ss) h = refl
@@ -61,12 +60,12 @@ module _ (ok want : Entry → Bool) where
   one-above (Held e) ss h = and-false (ok e) (sound ok ss) (with-blanks ss h)
   one-above Damaged ss h = refl
 
-  unsound-below : (above ss : List Sector) → sound ok (written ss) ≡ false → first_in ok want (written (reverse_aux above ss)) ≡ Damage
+  unsound-below : (above ss : List Sector) → sound ok (written ss) ≡ false → first_in ok want (written (reverse_aux above ss)) ≡ damaged
   unsound-below [] ss h = unsound-first (written ss) h
   unsound-below (s ∷ above) ss h = unsound-below above (s ∷ ss) (one-above s ss h)
 
   -- behind a blank there are blanks alone, or the bucket is damaged
-  blank-below : (above ss : List Sector) → first_in ok want (written (reverse_aux above (Blank ∷ ss))) ≡ if (all_blank above) (first_in ok want (written ss)) Damage
+  blank-below : (above ss : List Sector) → first_in ok want (written (reverse_aux above (Blank ∷ ss))) ≡ if (all_blank above) (first_in ok want (written ss)) damaged
   unfolding written holds sound all_blank
   blank-below [] ss = refl
   blank-below (Blank ∷ above) ss = blank-below above (Blank ∷ ss)
@@ -80,28 +79,31 @@ module _ (ok want : Entry → Bool) where
   sound-written (Held e ∷ ss) h = refl
   sound-written (Damaged ∷ ss) h = absurd (true-false (sym h))
 
-  module _ (weigh : Found → Entry → Found) (takes : (best : Found) (e : Entry) → weigh best e ≡ if (want e) (Hit e) best) where
+  module _ (weigh : Option Entry → Entry → Option Entry) (takes : (best : Option Entry) (e : Entry) → weigh best e ≡ if (want e) (Some e) best) where
     -- an entry behind a sound run; `on` is the rest of the way once it belongs to the run
-    entry-behind : (above : List Sector) (e : Entry) (below : List Sector) (fits : Bool) → ok e ≡ fits → sound ok below ≡ true
-        → (sound ok (Held e ∷ below) ≡ true → first_in ok want (written (reverse_aux above (Held e ∷ below))) ≡ scan_in ok weigh above (first_in ok want (Held e ∷ below)))
-        → first_in ok want (written (reverse_aux above (Held e ∷ below))) ≡ if fits (scan_in ok weigh above (weigh (first_in ok want below) e)) Damage
+    entry-behind : (above : List Sector) (e : Entry) (below : List Sector) (best : Option Entry) (fits : Bool) → ok e ≡ fits → sound ok below ≡ true
+        → first_in ok want below ≡ Ok best
+        → (sound ok (Held e ∷ below) ≡ true → (b : Option Entry) → first_in ok want (Held e ∷ below) ≡ Ok b
+        → first_in ok want (written (reverse_aux above (Held e ∷ below))) ≡ scan_in ok weigh above b)
+        → first_in ok want (written (reverse_aux above (Held e ∷ below))) ≡ if fits (scan_in ok weigh above (weigh best e)) damaged
     unfolding written holds sound first_in
-    entry-behind above e below true is h on = on (rw (is, h)) ∙ ap (scan_in ok weigh above) (rw (is, h) (sym (takes (first_in ok want below) e)))
-    entry-behind above e below false is h on = unsound-below above (Held e ∷ below) (rw is)
+    entry-behind above e below best true is h got on = on (rw (is, h)) (weigh best e) (rw (is, h, got, takes best e) (ok-if (want e) e best))
+    entry-behind above e below best false is h got on = unsound-below above (Held e ∷ below) (rw is)
 
     -- those below are a sound run, and the first wanted of them is the best so far
-    back-scan : (above below : List Sector) → sound ok below ≡ true
-        → first_in ok want (written (reverse_aux above below)) ≡ scan_in ok weigh above (first_in ok want below)
+    back-scan : (above below : List Sector) → sound ok below ≡ true → (best : Option Entry) → first_in ok want below ≡ Ok best
+        → first_in ok want (written (reverse_aux above below)) ≡ scan_in ok weigh above best
     unfolding scan_in written holds sound
-    back-scan [] below h = ap (first_in ok want) (sound-written below h)
-    back-scan (Blank ∷ above) below h = blank-below above below ∙ ap (λ (l : List Sector). if (all_blank above) (first_in ok want l) Damage) (sound-written below h)
-    back-scan (Held e ∷ above) below h = entry-behind above e below (ok e) refl h (back-scan above (Held e ∷ below))
-    back-scan (Damaged ∷ above) below h = unsound-below above (Damaged ∷ below) refl
+    back-scan [] below h best got = ap (first_in ok want) (sound-written below h) ∙ got
+    back-scan (Blank ∷ above) below h best got =
+        blank-below above below ∙ ap (λ (l : List Sector). if (all_blank above) (first_in ok want l) damaged) (sound-written below h) ∙ rw got
+    back-scan (Held e ∷ above) below h best got = entry-behind above e below best (ok e) refl h got (back-scan above (Held e ∷ below))
+    back-scan (Damaged ∷ above) below h best got = unsound-below above (Damaged ∷ below) refl
 
     -- the whole part
-    pub from_last : (n count : ℕ) (part : List ℕ) → first_in ok want (written (last_first n part count)) ≡ scan_in ok weigh (sectors n part 0 count) Nothing
+    pub from_last : (n count : ℕ) (part : List ℕ) → first_in ok want (written (last_first n part count)) ≡ scan_in ok weigh (sectors n part 0 count) None
     unfolding last_first sound first_in
-    from_last n count part = ap (λ (l : List Sector). first_in ok want (written l)) (sym (turned n part 0 count count (omega arith))) ∙ back-scan (sectors n part 0 count) [] refl
+    from_last n count part = ap (λ (l : List Sector). first_in ok want (written l)) (sym (turned n part 0 count count (omega arith))) ∙ back-scan (sectors n part 0 count) [] refl None refl
 
 -- the sectors before the i-th: the one before it, and those before that
 back_step : (n i : ℕ) (part : List ℕ) → 0 < i → last_first n part i ≡ decode n (sector_at part (i - 1)) ∷ last_first n part (i - 1)
@@ -134,19 +136,19 @@ pass-turn n i part blank w h d inv =
 
 -- no entry, as an else has it
 module _ (ok : Entry → Bool) where
-  pub no-entry : (s : Sector) → OneOf (0 ∷ 2 ∷ []) (tag_of the_type s) → false ≡ holds ok s
+  pub no-entry : (s : Sector) → ((e : Entry) → s ≡ Held e → ⊥) → false ≡ holds ok s
   unfolding holds
   no-entry Blank p = refl
-  no-entry (Held e) p = ⊎_elim (λ a. absurd (omega arith)) (λ c. absurd (omega arith)) p
+  no-entry (Held e) p = absurd (p e refl)
   no-entry Damaged p = refl
 
   module _ (want : Entry → Bool) where
-    pub no-entry-first : (s : Sector) (l : List Sector) → OneOf (0 ∷ 2 ∷ []) (tag_of the_type s) → Damage ≡ first_in ok want (s ∷ l)
+    pub no-entry-first : (s : Sector) (l : List Sector) → ((e : Entry) → s ≡ Held e → ⊥) → damaged ≡ first_in ok want (s ∷ l)
     unfolding sound
     no-entry-first s l p = sym (unsound-first ok want (s ∷ l) (ap (λ (b : Bool). b & sound ok l) (sym (no-entry s p))))
 
     -- an entry met, with the code's answers to what is asked of it
     pub first-met : (e : Entry) (l : List Sector) (fits wanted rest : Bool) → fits ≡ ok e → wanted ≡ want e → rest ≡ sound ok l
-        → if fits (if wanted (if rest (Hit e) Damage) (first_in ok want l)) Damage ≡ first_in ok want (Held e ∷ l)
+        → if fits (if wanted (if rest (Ok (Some e)) damaged) (first_in ok want l)) damaged ≡ first_in ok want (Held e ∷ l)
     unfolding first_in
     first-met e l fits wanted rest a b c = rw (a, b, c)

@@ -2,13 +2,12 @@
 use mathlib.Core.Path.{◌≡◌, refl, ap, sym, ◌∙◌}
 use mathlib.Core.Logic.{⊎_elim}
 use mathlib.Core.Bool.{Bool, true, false}
-use mathlib.Core.Option.{Option, none, some}
+use Rattle.std.specs.Prelude.{Option, None, Some, Result, Ok, Err}
+use Rattle.rules.specs.declared.refusal.Damage.{Damage}
 use mathlib.Core.List.{List, [], ◌∷◌}
 use Prim.Native.Nat.{ℕ, zero, suc, ◌≤◌, ◌<◌}
 use native.Mathlib.Omega.{arith}
 use lib.Dec.{leb, ltb, eqb}
-use types.Run.{OneOf}
-use denote.Enum.Declared.{tag_of}
 use lib.ListN.{take, drop}
 use borrow.Author.Tests.{le-leb, lt-leb, le-ltb, ne_eqb}
 use Rattle.rules.specs.declared.Entry.{Entry}
@@ -24,33 +23,28 @@ use Rattle.rules.specs.Walk.{left}
 use Rattle.laws.proofs.Tools.{bool_cases, false-true, and-true, le-or-lt}
 use Rattle.laws.proofs.Zeros.{zeros-get}
 use Rattle.laws.proofs.Bytes.{held-inv}
-use Rattle.scan.specs.declared.Found.{Found}
-use Rattle.scan.specs.contracts.Found.{the_type}
-use Rattle.scan.specs.declared.Found.TheVariants.{Damage, Nothing, Hit}
 use Rattle.scan.specs.declared.Way.{Way}
-use Rattle.scan.specs.declared.Way.TheVariants.{Lost, Down, Absent, Copy}
-use Rattle.scan.specs.Scan.{sectors, all_blank, scan_in, pick, way_of, search}
+use Rattle.scan.specs.declared.Way.TheVariants.{Down, End}
+use Rattle.scan.specs.Scan.{Found, damaged, sectors, all_blank, scan_in, pick, way_of, search}
 use Rattle.scan.specs.Look.{search_at}
 use Rattle.scan.specs.Next.{under, above, above_at, pick_up, weigh, runs, lower, stand_in, sectors_of}
 use Rattle.scan.proofs.Runs.{run_of, blank-run, fold, fold-snoc}
-use Rattle.scan.proofs.Picks.{hit}
 use Rattle.scan.proofs.Mins.{above_in, up_step, weigh-run, stand-run, stand-above}
 use Rattle.scan.proofs.Least.{least-over, stand-none, least-stands}
 
 -- a scan that gives no damage has passed a run
 abbrev Whole : Found → Type 0
-Whole Damage = ⊥
-Whole Nothing = Unit {0}
-Whole (Hit e) = Unit {0}
+Whole (Err d) = ⊥
+Whole (Ok r) = Unit {0}
 
-if-whole : (b : Bool) (f : Found) → Whole (if b f Damage) → (b ≡ true) × Whole f
+if-whole : (b : Bool) (f : Found) → Whole (if b f damaged) → (b ≡ true) × Whole f
 if-whole true f w = (refl, w)
 if-whole false f w = absurd w
 
-scan_runs : (ok test : Entry → Bool) (p : Found → Entry → Found) → ((e : Entry) → test e ≡ true → ok e ≡ true) → (ss : List Sector) (best : Found) → Whole (scan_in test p ss best) → runs ok ss ≡ true
+scan_runs : (ok test : Entry → Bool) (p : Option Entry → Entry → Option Entry) → ((e : Entry) → test e ≡ true → ok e ≡ true) → (ss : List Sector) (best : Option Entry) → Whole (scan_in test p ss best) → runs ok ss ≡ true
 unfolding scan_in runs
 scan_runs ok test p more [] best w = refl
-scan_runs ok test p more (Blank ∷ ss) best w = (if-whole (all_blank ss) best w).0
+scan_runs ok test p more (Blank ∷ ss) best w = (if-whole (all_blank ss) (Ok best) w).0
 scan_runs ok test p more (Held e ∷ ss) best w =
     let go = if-whole (test e) (scan_in test p ss (p best e)) w in
     rw (more e go.0) (scan_runs ok test p more ss (p best e) go.1)
@@ -62,28 +56,24 @@ unfolding joins
 joins-as index h e i j = (and-true (if index (is_index e) (is_data e)) (leb h.key e.key) (rw i at j)).0
 
 -- the class that a way speaks of
-abbrev pub Says : Bool → Way → Type 0
-Says index Lost = ⊥
-Says true (Down e) = Unit {0}
-Says false (Down e) = ⊥
-Says true Absent = ⊥
-Says false Absent = Unit {0}
-Says true (Copy e) = ⊥
-Says false (Copy e) = Unit {0}
+abbrev pub Says : Bool → Result Way Damage → Type 0
+Says index (Err d) = ⊥
+Says true (Ok (Down e)) = Unit {0}
+Says false (Ok (Down e)) = ⊥
+Says true (Ok (End c)) = ⊥
+Says false (Ok (End c)) = Unit {0}
 
 way-says : (index i : Bool) (f : Found) → Says index (way_of i f) → (i ≡ index) × Whole f
 unfolding way_of
-way-says true true (Hit e) w = (refl, tt)
-way-says false true (Hit e) w = absurd w
-way-says true false (Hit e) w = absurd w
-way-says false false (Hit e) w = (refl, tt)
-way-says index true Nothing w = absurd w
-way-says true false Nothing w = absurd w
-way-says false false Nothing w = (refl, tt)
-way-says index true Damage w = absurd w
-way-says index false Damage w = absurd w
+way-says true true (Ok (Some e)) w = (refl, tt)
+way-says false true (Ok (Some e)) w = absurd w
+way-says index true (Ok None) w = absurd w
+way-says true false (Ok r) w = absurd w
+way-says false false (Ok r) w = (refl, tt)
+way-says index true (Err d) w = absurd w
+way-says index false (Err d) w = absurd w
 
-if-says : (index b : Bool) (w : Way) → Says index (if b w Lost) → Says index w
+if-says : (index b : Bool) (w : Result Way Damage) → Says index (if b w damaged) → Says index w
 if-says index true w s = s
 if-says index false w s = absurd s
 
@@ -92,9 +82,9 @@ unfolding search
 search-says index k x t [] s = absurd s
 search-says index k x t (Blank ∷ ss) s = absurd s
 search-says index k x t (Held h ∷ ss) s =
-    let f = scan_in (joins h) (pick (is_index h) x t) (Held h ∷ ss) Nothing in
+    let f = scan_in (joins h) (pick (is_index h) x t) (Held h ∷ ss) None in
     let w = way-says index (is_index h) f (if-says index (eqb h.key k) (way_of (is_index h) f) s) in
-    scan_runs (λ e. if index (is_index e) (is_data e)) (joins h) (pick (is_index h) x t) (λ e. joins-as index h e w.0) (Held h ∷ ss) Nothing w.1
+    scan_runs (λ e. if index (is_index e) (is_data e)) (joins h) (pick (is_index h) x t) (λ e. joins-as index h e w.0) (Held h ∷ ss) None w.1
 search-says index k x t (Damaged ∷ ss) s = absurd s
 
 module _ (h : Head) (card : List ℕ) (x t b k : ℕ) where
@@ -106,14 +96,11 @@ module _ (h : Head) (card : List ℕ) (x t b k : ℕ) where
       go zero s = absurd s
       go (suc c) s = search-says index k x t (sectors h.n card (base h (suc c)) h.m) s
 
-  pub down-runs : (w : Way) (e : Entry) → w ≡ search_at h card x t b k → w ≡ Down e → runs is_index (sectors_of h card b) ≡ true
+  pub down-runs : (w : Result Way Damage) (e : Entry) → w ≡ search_at h card x t b k → w ≡ Ok (Down e) → runs is_index (sectors_of h card b) ≡ true
   down-runs w e said is = at-says true (rw (sym said ∙ is) tt)
 
-  pub absent-runs : (w : Way) → w ≡ search_at h card x t b k → w ≡ Absent → runs is_data (sectors_of h card b) ≡ true
-  absent-runs w said is = at-says false (rw (sym said ∙ is) tt)
-
-  pub copy-runs : (w : Way) (e : Entry) → w ≡ search_at h card x t b k → w ≡ Copy e → runs is_data (sectors_of h card b) ≡ true
-  copy-runs w e said is = at-says false (rw (sym said ∙ is) tt)
+  pub end-runs : (w : Result Way Damage) (c : Option Entry) → w ≡ search_at h card x t b k → w ≡ Ok (End c) → runs is_data (sectors_of h card b) ≡ true
+  end-runs w c said is = at-says false (rw (sym said ∙ is) tt)
 
 -- a blank sector has key 0, which is above nothing
 blank-zeros : (n : ℕ) (s : List ℕ) → decode n s ≡ Blank → zeros s ≡ true
@@ -129,7 +116,7 @@ blank-key : (n : ℕ) (s : List ℕ) → decode n s ≡ Blank → (fields s).key
 unfolding fields word
 blank-key n s q = let z = blank-zeros n s q in rw (zeros-get s 4 z, zeros-get s 5 z, zeros-get s 6 z, zeros-get s 7 z)
 
-above-none : (x t : ℕ) (f : Found) (e : Entry) → e.key ≤ x → above_at x t f e ≡ f
+above-none : (x t : ℕ) (f : Option Entry) (e : Entry) → e.key ≤ x → above_at x t f e ≡ f
 unfolding above_at above
 above-none x t f e le = rw (le-ltb x e.key le) (go (leb e.stamp t))
   where
@@ -137,7 +124,7 @@ above-none x t f e le = rw (le-ltb x e.key le) (go (leb e.stamp t))
     go true = refl
     go false = refl
 
-blanks-weigh : (p : Found → Entry → Found) (ss : List Sector) (f : Found) → all_blank ss ≡ true → weigh p ss f ≡ f
+blanks-weigh : (p : Option Entry → Entry → Option Entry) (ss : List Sector) (f : Option Entry) → all_blank ss ≡ true → weigh p ss f ≡ f
 unfolding all_blank weigh
 blanks-weigh p [] f q = refl
 blanks-weigh p (Blank ∷ ss) f q = refl
@@ -152,7 +139,7 @@ blanks-run ok (Held e ∷ ss) q = absurd (false-true q)
 blanks-run ok (Damaged ∷ ss) q = absurd (false-true q)
 
 -- one sector read by its fields, whatever it is
-pub fields-turn : (ok : Entry → Bool) (n x t : ℕ) (b : List ℕ) (s : Sector) (ss : List Sector) (f W : Found) → s ≡ decode n b → runs ok (s ∷ ss) ≡ true → weigh (above_at x t) (s ∷ ss) f ≡ W
+pub fields-turn : (ok : Entry → Bool) (n x t : ℕ) (b : List ℕ) (s : Sector) (ss : List Sector) (f W : Option Entry) → s ≡ decode n b → runs ok (s ∷ ss) ≡ true → weigh (above_at x t) (s ∷ ss) f ≡ W
     → (runs ok ss ≡ true) × (weigh (above_at x t) ss (above_at x t f (fields b)) ≡ W)
 unfolding runs weigh
 fields-turn ok n x t b Blank ss f W d r w =
@@ -161,7 +148,7 @@ fields-turn ok n x t b (Held e) ss f W d r w = ((and-true (ok e) (runs ok ss) r)
 fields-turn ok n x t b Damaged ss f W d r w = absurd (false-true r)
 
 -- a run has its entries
-runs-some : (ok : Entry → Bool) (ss : List Sector) → runs ok ss ≡ true → (es : List Entry) × (run_of ss ≡ some es)
+runs-some : (ok : Entry → Bool) (ss : List Sector) → runs ok ss ≡ true → (es : List Entry) × (run_of ss ≡ Some es)
 unfolding runs run_of onto
 runs-some ok [] q = ([], refl)
 runs-some ok (Blank ∷ ss) q = ([], blank-run ss ∙ rw q)
@@ -169,7 +156,7 @@ runs-some ok (Held e ∷ ss) q = let r = runs-some ok ss (and-true (ok e) (runs 
 runs-some ok (Damaged ∷ ss) q = absurd (false-true q)
 
 -- in an index bucket every entry is one of an index
-index-weigh : (x t : ℕ) (ss : List Sector) (up : Found) → runs is_index ss ≡ true → weigh (pick_up x t) ss up ≡ weigh (above_at x t) ss up
+index-weigh : (x t : ℕ) (ss : List Sector) (up : Option Entry) → runs is_index ss ≡ true → weigh (pick_up x t) ss up ≡ weigh (above_at x t) ss up
 unfolding runs weigh pick_up
 index-weigh x t [] up q = refl
 index-weigh x t (Blank ∷ ss) up q = refl
@@ -181,28 +168,23 @@ data-other : (e : Entry) → is_data e ≡ true → is_index e ≡ false
 unfolding is_data is_index
 data-other e d = ne_eqb e.kind 3 (λ three. let no : ◌≡◌ {A = Bool} false true = rw three at d in let z : ◌≡◌ {A = ℕ} 0 1 = cc in omega arith)
 
-data-passed : (x t : ℕ) (ss : List Sector) (up : Found) → runs is_data ss ≡ true → weigh (pick_up x t) ss up ≡ up
+data-passed : (x t : ℕ) (ss : List Sector) (up : Option Entry) → runs is_data ss ≡ true → weigh (pick_up x t) ss up ≡ up
 unfolding runs weigh pick_up
 data-passed x t [] up q = refl
 data-passed x t (Blank ∷ ss) up q = refl
 data-passed x t (Held e ∷ ss) up q = let a = and-true (is_data e) (runs is_data ss) q in rw (data-other e a.0) (data-passed x t ss up a.1)
 data-passed x t (Damaged ∷ ss) up q = refl
 
-pub data-weigh : (h : Head) (card : List ℕ) (x t b k : ℕ) (up : Found) → Says false (search_at h card x t b k) → weigh (pick_up x t) (sectors_of h card b) up ≡ up
+pub data-weigh : (h : Head) (card : List ℕ) (x t b k : ℕ) (up : Option Entry) → Says false (search_at h card x t b k) → weigh (pick_up x t) (sectors_of h card b) up ≡ up
 data-weigh h card x t b k up s = data-passed x t (sectors_of h card b) up (at-says h card x t b k false s)
 
 -- of three the least, the later of one key
-lower-under : (a f : Found) (e : Entry) → under (lower a f) e ≡ lower a (under f e)
+lower-under : (a f : Option Entry) (e : Entry) → under (lower a f) e ≡ lower a (under f e)
 unfolding lower under
-lower-under Damage Damage e = refl
-lower-under Damage Nothing e = refl
-lower-under Damage (Hit o) e = ⊎_elim (λ (b : leb e.key o.key ≡ true). rw b) (λ (b : leb e.key o.key ≡ false). rw b) (bool_cases (leb e.key o.key))
-lower-under Nothing Damage e = refl
-lower-under Nothing Nothing e = refl
-lower-under Nothing (Hit o) e = ⊎_elim (λ (b : leb e.key o.key ≡ true). rw b) (λ (b : leb e.key o.key ≡ false). rw b) (bool_cases (leb e.key o.key))
-lower-under (Hit a) Damage e = refl
-lower-under (Hit a) Nothing e = refl
-lower-under (Hit a) (Hit o) e =
+lower-under None None e = refl
+lower-under None (Some o) e = ⊎_elim (λ (b : leb e.key o.key ≡ true). rw b) (λ (b : leb e.key o.key ≡ false). rw b) (bool_cases (leb e.key o.key))
+lower-under (Some a) None e = refl
+lower-under (Some a) (Some o) e =
     ⊎_elim
     (λ (oa : o.key ≤ a.key).
     ⊎_elim (λ (eo : e.key ≤ o.key). rw (le-leb o.key a.key oa, le-leb e.key o.key eo, le-leb e.key a.key (omega arith)))
@@ -212,7 +194,7 @@ lower-under (Hit a) (Hit o) e =
     (λ (oe : o.key < e.key). rw (lt-leb o.key a.key ao, lt-leb e.key o.key oe, lt-leb e.key a.key (omega arith), lt-leb o.key a.key ao)) (le-or-lt e.key o.key))
     (le-or-lt o.key a.key)
 
-lower-above : (x t : ℕ) (a f : Found) (e : Entry) → above_at x t (lower a f) e ≡ lower a (above_at x t f e)
+lower-above : (x t : ℕ) (a f : Option Entry) (e : Entry) → above_at x t (lower a f) e ≡ lower a (above_at x t f e)
 unfolding above_at above
 lower-above x t a f e = go (leb e.stamp t) (ltb x e.key)
   where
@@ -221,7 +203,7 @@ lower-above x t a f e = go (leb e.stamp t) (ltb x e.key)
     go true false = refl
     go false k = refl
 
-lower-weigh : (x t : ℕ) (ss : List Sector) (a f : Found) → weigh (above_at x t) ss (lower a f) ≡ lower a (weigh (above_at x t) ss f)
+lower-weigh : (x t : ℕ) (ss : List Sector) (a f : Option Entry) → weigh (above_at x t) ss (lower a f) ≡ lower a (weigh (above_at x t) ss f)
 unfolding weigh
 lower-weigh x t [] a f = refl
 lower-weigh x t (Blank ∷ ss) a f = refl
@@ -229,54 +211,40 @@ lower-weigh x t (Held e ∷ ss) a f = rw (lower-above x t a f e) (lower-weigh x 
 lower-weigh x t (Damaged ∷ ss) a f = refl
 
 -- the least index key above x, with those of the buckets before
-pub index-least : (x t : ℕ) (ss : List Sector) (up : Found) → runs is_index ss ≡ true → lower up (weigh (above_at x t) ss Nothing) ≡ weigh (pick_up x t) ss up
+pub index-least : (x t : ℕ) (ss : List Sector) (up : Option Entry) → runs is_index ss ≡ true → lower up (weigh (above_at x t) ss None) ≡ weigh (pick_up x t) ss up
 unfolding lower
-index-least x t ss up q = sym (index-weigh x t ss up q ∙ lower-weigh x t ss up Nothing)
+index-least x t ss up q = sym (index-weigh x t ss up q ∙ lower-weigh x t ss up None)
 
 -- a data bucket asked for the least key above x, stamped t or earlier
 module _ (ok : Entry → Bool) (ss : List Sector) (q : runs ok ss ≡ true) (x t : ℕ) where
   abbrev held : List Entry
   held = (runs-some ok ss q).0
 
-  least-is : weigh (above_at x t) ss Nothing ≡ hit (above_in x t held)
-  unfolding above_at above hit left only fold smallest
-  least-is = weigh-run (above_at x t) ss held Nothing (runs-some ok ss q).1 ∙ fold-snoc (above_at x t) (λ l. hit (above_in x t l)) (up_step x t) [] held
+  least-is : weigh (above_at x t) ss None ≡ above_in x t held
+  unfolding above_at above left only fold smallest
+  least-is = weigh-run (above_at x t) ss held None (runs-some ok ss q).1 ∙ fold-snoc (above_at x t) (λ l. above_in x t l) (up_step x t) [] held
 
-  stands-is : (z : ℕ) → stand_in z t ss Nothing ≡ hit (standing_above z (left t held))
-  stands-is z = stand-run z t ss held Nothing (runs-some ok ss q).1 ∙ stand-above z t held
+  stands-is : (z : ℕ) → stand_in z t ss None ≡ standing_above z (left t held)
+  stands-is z = stand-run z t ss held None (runs-some ok ss q).1 ∙ stand-above z t held
 
   -- none is above x, so none stands
-  pub none-next : (f : Found) → f ≡ weigh (above_at x t) ss Nothing → OneOf (0 ∷ 1 ∷ []) (tag_of the_type f) → Nothing ≡ stand_in x t ss Nothing
-  unfolding hit
-  none-next f is p = go (above_in x t held) refl
-    where
-      go : (r : Option Entry) → above_in x t held ≡ r → Nothing ≡ stand_in x t ss Nothing
-      go none e = sym (stands-is x ∙ ap hit (stand-none x (left t held) e))
-      go (some d) e =
-          let found : f ≡ Hit d = is ∙ least-is ∙ ap hit e in
-          let tag : OneOf (0 ∷ 1 ∷ []) (tag_of the_type (Hit d)) = rw found at p in
-          absurd (⊎_elim (λ a. omega arith) (λ b. omega arith) tag)
+  pub none-next : (f : Option Entry) → f ≡ weigh (above_at x t) ss None → f ≡ None → None ≡ stand_in x t ss None
+  none-next f is none = sym (stands-is x ∙ stand-none x (left t held) (sym least-is ∙ sym is ∙ none))
 
-  module _ (f : Found) (e : Entry) (is : f ≡ weigh (above_at x t) ss Nothing) (got : f ≡ Hit e) where
-    least-e : above_in x t held ≡ some e
-    unfolding hit
-    least-e = go (above_in x t held) (sym least-is ∙ sym is ∙ got)
-      where
-        go : (r : Option Entry) → hit r ≡ Hit e → r ≡ some e
-        go none q = let z : ◌≡◌ {A = ℕ} 0 1 = cc in absurd (omega arith)
-        go (some d) q = cc
+  module _ (f : Option Entry) (e : Entry) (is : f ≡ weigh (above_at x t) ss None) (got : f ≡ Some e) where
+    least-e : above_in x t held ≡ Some e
+    least-e = sym least-is ∙ sym is ∙ got
 
     pub next-rises : x < e.key
     next-rises = least-over x (left t held) e least-e
 
-    told : stand_in x t ss Nothing ≡ hit (if (is_post e) (some e) (standing_above e.key (left t held)))
-    told = stands-is x ∙ ap hit (least-stands x (left t held) e least-e)
+    told : stand_in x t ss None ≡ if (is_post e) (Some e) (standing_above e.key (left t held))
+    told = stands-is x ∙ least-stands x (left t held) e least-e
 
     -- a post: it is the next
-    pub post-next : is_post e ≡ true → Hit e ≡ stand_in x t ss Nothing
-    unfolding hit
+    pub post-next : is_post e ≡ true → Some e ≡ stand_in x t ss None
     post-next p = sym (rw p at told)
 
     -- a strike: the next is above it
-    pub strike-next : is_post e ≡ false → stand_in x t ss Nothing ≡ stand_in e.key t ss Nothing
+    pub strike-next : is_post e ≡ false → stand_in x t ss None ≡ stand_in e.key t ss None
     strike-next p = (rw p at told) ∙ sym (stands-is e.key)

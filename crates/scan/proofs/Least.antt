@@ -2,7 +2,7 @@
 use mathlib.Core.Path.{◌≡◌, refl, ap, sym, ◌∙◌}
 use mathlib.Core.Logic.{◌⊎◌, inl, inr, ⊎_elim}
 use mathlib.Core.Bool.{Bool, true, false}
-use mathlib.Core.Option.{Option, none, some}
+use Rattle.std.specs.Prelude.{Option, None, Some}
 use mathlib.Core.List.{List, [], ◌∷◌}
 use Prim.Native.Nat.{ℕ, ◌≤◌, ◌<◌}
 use native.Mathlib.Omega.{arith}
@@ -24,45 +24,45 @@ Gap x y [] = Unit {0}
 Gap x y (d ∷ l) = ((d.key ≤ x) ⊎ (y < d.key)) × Gap x y l
 
 -- which of two is the smaller
-smaller-none : (d : Entry) (r : Option Entry) → smaller d r ≡ none → ⊥
+smaller-none : (d : Entry) (r : Option Entry) → smaller d r ≡ None → ⊥
 unfolding smaller
-smaller-none d none q = none-some (sym q)
-smaller-none d (some m) q = ⊎_elim (λ (b : leb m.key d.key ≡ true). none-some (sym (rw b at q))) (λ (b : leb m.key d.key ≡ false). none-some (sym (rw b at q))) (bool_cases (leb m.key d.key))
+smaller-none d None q = none-some (sym q)
+smaller-none d (Some m) q = ⊎_elim (λ (b : leb m.key d.key ≡ true). none-some (sym (rw b at q))) (λ (b : leb m.key d.key ≡ false). none-some (sym (rw b at q))) (bool_cases (leb m.key d.key))
 
 Smaller : Entry → Option Entry → Entry → Type 0
-Smaller d none e = e ≡ d
-Smaller d (some m) e = ((m.key ≤ d.key) × (e ≡ m)) ⊎ ((d.key < m.key) × (e ≡ d))
+Smaller d None e = e ≡ d
+Smaller d (Some m) e = ((m.key ≤ d.key) × (e ≡ m)) ⊎ ((d.key < m.key) × (e ≡ d))
 
-smaller-is : (d : Entry) (r : Option Entry) (e : Entry) → smaller d r ≡ some e → Smaller d r e
+smaller-is : (d : Entry) (r : Option Entry) (e : Entry) → smaller d r ≡ Some e → Smaller d r e
 unfolding smaller Smaller
-smaller-is d none e q = cc
-smaller-is d (some m) e q =
+smaller-is d None e q = cc
+smaller-is d (Some m) e q =
     ⊎_elim (λ (b : leb m.key d.key ≡ true). let is = rw b at q in inl (leb-true m.key d.key b, cc))
     (λ (b : leb m.key d.key ≡ false). let is = rw b at q in inr (leb-false m.key d.key b, cc)) (bool_cases (leb m.key d.key))
 
 -- the smallest of those that pass a test passes it
-small-passes : (p : Entry → Bool) (l : List Entry) (s : Entry) → smallest (only p l) ≡ some s → p s ≡ true
+small-passes : (p : Entry → Bool) (l : List Entry) (s : Entry) → smallest (only p l) ≡ Some s → p s ≡ true
 unfolding only smallest Smaller
 small-passes p [] s q = absurd (none-some q)
 small-passes p (d ∷ l) s q =
     ⊎_elim (λ (b : p d ≡ true). rest (λ m e. small-passes p l m e) (smallest (only p l)) refl b (smaller-is d (smallest (only p l)) s (rw b at q))) (λ (b : p d ≡ false). small-passes p l s (rw b at q)) (bool_cases (p d))
   where
-    rest : ((m : Entry) → smallest (only p l) ≡ some m → p m ≡ true) → (r : Option Entry) → smallest (only p l) ≡ r → p d ≡ true → Smaller d r s → p s ≡ true
-    rest ih none e b is = rw is b
-    rest ih (some m) e b is = ⊎_elim (λ (v : (m.key ≤ d.key) × (s ≡ m)). rw v.1 (ih m e)) (λ (v : (d.key < m.key) × (s ≡ d)). rw v.1 b) is
+    rest : ((m : Entry) → smallest (only p l) ≡ Some m → p m ≡ true) → (r : Option Entry) → smallest (only p l) ≡ r → p d ≡ true → Smaller d r s → p s ≡ true
+    rest ih None e b is = rw is b
+    rest ih (Some m) e b is = ⊎_elim (λ (v : (m.key ≤ d.key) × (s ≡ m)). rw v.1 (ih m e)) (λ (v : (d.key < m.key) × (s ≡ d)). rw v.1 b) is
 
-pub least-over : (x : ℕ) (l : List Entry) (e : Entry) → least_above x l ≡ some e → x < e.key
+pub least-over : (x : ℕ) (l : List Entry) (e : Entry) → least_above x l ≡ Some e → x < e.key
 least-over x l e q = ltb-true x e.key (small-passes (λ d. ltb x d.key) l e q)
 
 -- below the least key there is none
-gap-none : (x y : ℕ) (l : List Entry) → least_above x l ≡ none → Gap x y l
+gap-none : (x y : ℕ) (l : List Entry) → least_above x l ≡ None → Gap x y l
 unfolding Gap only smallest
 gap-none x y [] q = tt
 gap-none x y (d ∷ l) q =
     ⊎_elim (λ (le : d.key ≤ x). (inl le, gap-none x y l (rw (le-ltb x d.key le) at q))) (λ (lt : x < d.key). absurd (smaller-none d (least_above x l) (rw (lt-ltb x d.key lt) at q)))
     (le-or-lt d.key x)
 
-gap-some : (x y : ℕ) (l : List Entry) (e : Entry) → least_above x l ≡ some e → y < e.key → Gap x y l
+gap-some : (x y : ℕ) (l : List Entry) (e : Entry) → least_above x l ≡ Some e → y < e.key → Gap x y l
 unfolding Gap only smallest Smaller
 gap-some x y [] e q lt = absurd (none-some q)
 gap-some x y (d ∷ l) e q lt =
@@ -70,9 +70,9 @@ gap-some x y (d ∷ l) e q lt =
     (λ (over : x < d.key). here (λ m r. gap-some x y l m r) (least_above x l) refl (smaller-is d (least_above x l) e (rw (lt-ltb x d.key over) at q)))
     (le-or-lt d.key x)
   where
-    here : ((m : Entry) → least_above x l ≡ some m → y < m.key → Gap x y l) → (r : Option Entry) → least_above x l ≡ r → Smaller d r e → ((d.key ≤ x) ⊎ (y < d.key)) × Gap x y l
-    here ih none r is = let k : e.key ≡ d.key = ap (λ (z : Entry). z.key) is in (inr (omega arith), gap-none x y l r)
-    here ih (some m) r is =
+    here : ((m : Entry) → least_above x l ≡ Some m → y < m.key → Gap x y l) → (r : Option Entry) → least_above x l ≡ r → Smaller d r e → ((d.key ≤ x) ⊎ (y < d.key)) × Gap x y l
+    here ih None r is = let k : e.key ≡ d.key = ap (λ (z : Entry). z.key) is in (inr (omega arith), gap-none x y l r)
+    here ih (Some m) r is =
         ⊎_elim (λ (v : (m.key ≤ d.key) × (e ≡ m)). let k : e.key ≡ m.key = ap (λ (z : Entry). z.key) v.1 in (inr (omega (arith, v.0)), ih m r (omega arith)))
         (λ (v : (d.key < m.key) × (e ≡ d)). let k : e.key ≡ d.key = ap (λ (z : Entry). z.key) v.1 in (inr (omega arith), ih m r (omega (arith, v.0)))) is
 
@@ -95,7 +95,7 @@ last_more : (b : Bool) (d : Entry) (l : List Entry) → is_none (last_of l) ≡ 
 last_more true d l q = last_some d l
 last_more false d l q = q
 
-copy-there : (x : ℕ) (l : List Entry) (e : Entry) → least_above x l ≡ some e → is_none (copy_of e.key l) ≡ false
+copy-there : (x : ℕ) (l : List Entry) (e : Entry) → least_above x l ≡ Some e → is_none (copy_of e.key l) ≡ false
 unfolding copy_of only smallest Smaller
 copy-there x [] e q = absurd (none-some q)
 copy-there x (d ∷ l) e q =
@@ -109,9 +109,9 @@ copy-there x (d ∷ l) e q =
     own : e ≡ d → is_none (last_of (keep_if (eqb d.key e.key) d (only (λ z. eqb z.key e.key) l))) ≡ false
     own is = rw (eq-eqb d.key e.key (ap (λ (z : Entry). z.key) (sym is))) (last_some d (only (λ z. eqb z.key e.key) l))
 
-    here : ((m : Entry) → least_above x l ≡ some m → is_none (copy_of m.key l) ≡ false) → (r : Option Entry) → least_above x l ≡ r → Smaller d r e → is_none (last_of (keep_if (eqb d.key e.key) d (only (λ z. eqb z.key e.key) l))) ≡ false
-    here ih none r is = own is
-    here ih (some m) r is = ⊎_elim (λ (v : (m.key ≤ d.key) × (e ≡ m)). rw v.1 (more m (ih m r))) (λ (v : (d.key < m.key) × (e ≡ d)). own v.1) is
+    here : ((m : Entry) → least_above x l ≡ Some m → is_none (copy_of m.key l) ≡ false) → (r : Option Entry) → least_above x l ≡ r → Smaller d r e → is_none (last_of (keep_if (eqb d.key e.key) d (only (λ z. eqb z.key e.key) l))) ≡ false
+    here ih None r is = own is
+    here ih (Some m) r is = ⊎_elim (λ (v : (m.key ≤ d.key) × (e ≡ m)). rw v.1 (more m (ih m r))) (λ (v : (d.key < m.key) × (e ≡ d)). own v.1) is
 
 -- the bib that stands next above z, one entry more in front
 abbrev wanted : ℕ → Entry → Bool
@@ -166,29 +166,29 @@ gap-stand : (x y : ℕ) (l : List Entry) → Gap x y l → x ≤ y → standing_
 unfolding standing_above
 gap-stand x y l g le = ap smallest (gap_same x y l g le)
 
-pub stand-none : (x : ℕ) (l : List Entry) → least_above x l ≡ none → standing_above x l ≡ none
+pub stand-none : (x : ℕ) (l : List Entry) → least_above x l ≡ None → standing_above x l ≡ None
 unfolding only smallest standing_above lasts
 stand-none x [] q = nothing x
   where
-    nothing : (z : ℕ) → standing_above z [] ≡ none
+    nothing : (z : ℕ) → standing_above z [] ≡ None
     nothing z = refl
 stand-none x (d ∷ l) q =
     ⊎_elim (λ (le : d.key ≤ x). stand-out x d l (not-over x d le) ∙ stand-none x l (rw (le-ltb x d.key le) at q))
     (λ (lt : x < d.key). absurd (smaller-none d (least_above x l) (rw (lt-ltb x d.key lt) at q)))
     (le-or-lt d.key x)
 
-stand-over : (z : ℕ) (l : List Entry) (s : Entry) → standing_above z l ≡ some s → z < s.key
+stand-over : (z : ℕ) (l : List Entry) (s : Entry) → standing_above z l ≡ Some s → z < s.key
 unfolding standing_above
 stand-over z l s q = ltb-true z s.key (and-true (is_post s) (ltb z s.key) (small-passes (wanted z) (lasts l) s q)).1
 
 -- in front of those that stand above its own key
-in-front : (d : Entry) (l : List Entry) (r : Option Entry) → standing_above d.key l ≡ r → smaller d r ≡ some d
+in-front : (d : Entry) (l : List Entry) (r : Option Entry) → standing_above d.key l ≡ r → smaller d r ≡ Some d
 unfolding smaller
-in-front d l none q = refl
-in-front d l (some s) q = rw (lt-leb s.key d.key (stand-over d.key l s q))
+in-front d l None q = refl
+in-front d l (Some s) q = rw (lt-leb s.key d.key (stand-over d.key l s q))
 
 -- the least key above x stands if its last copy is a post; else none stands up to it
-pub least-stands : (x : ℕ) (l : List Entry) (e : Entry) → least_above x l ≡ some e → standing_above x l ≡ if (is_post e) (some e) (standing_above e.key l)
+pub least-stands : (x : ℕ) (l : List Entry) (e : Entry) → least_above x l ≡ Some e → standing_above x l ≡ if (is_post e) (Some e) (standing_above e.key l)
 unfolding only smallest smaller Smaller
 least-stands x [] e q = absurd (none-some q)
 least-stands x (d ∷ l) e q =
@@ -201,7 +201,7 @@ least-stands x (d ∷ l) e q =
     (le-or-lt d.key x)
   where
     -- it is the one in front
-    own : x < d.key → Gap x d.key l → standing_above x (d ∷ l) ≡ if (is_post d) (some d) (standing_above d.key (d ∷ l))
+    own : x < d.key → Gap x d.key l → standing_above x (d ∷ l) ≡ if (is_post d) (Some d) (standing_above d.key (d ∷ l))
     own over g =
         let alike = gap-stand x d.key l g (omega arith) in
         ⊎_elim
@@ -211,7 +211,7 @@ least-stands x (d ∷ l) e q =
         (bool_cases (is_post d))
 
     -- it is behind, and the one in front has a larger key
-    behind : (m : Entry) → x < d.key → standing_above x l ≡ if (is_post m) (some m) (standing_above m.key l) → m.key < d.key → standing_above x (d ∷ l) ≡ if (is_post m) (some m) (standing_above m.key (d ∷ l))
+    behind : (m : Entry) → x < d.key → standing_above x l ≡ if (is_post m) (Some m) (standing_above m.key l) → m.key < d.key → standing_above x (d ∷ l) ≡ if (is_post m) (Some m) (standing_above m.key (d ∷ l))
     behind m over ih lt =
         ⊎_elim
         (λ (b : is_none (copy_of d.key l) ≡ true).
@@ -223,13 +223,13 @@ least-stands x (d ∷ l) e q =
         (λ (b : is_none (copy_of d.key l) ≡ false). rw (stand-gone x d l b, stand-gone m.key d l b) ih)
         (bool_cases (is_none (copy_of d.key l)))
       where
-        kept : (post : Bool) → smaller d (if post (some m) (standing_above m.key l)) ≡ if post (some m) (smaller d (standing_above m.key l))
+        kept : (post : Bool) → smaller d (if post (Some m) (standing_above m.key l)) ≡ if post (Some m) (smaller d (standing_above m.key l))
         kept true = rw (le-leb m.key d.key (omega arith))
         kept false = refl
 
-    here : ((m : Entry) → least_above x l ≡ some m → standing_above x l ≡ if (is_post m) (some m) (standing_above m.key l)) → x < d.key → (r : Option Entry) → least_above x l ≡ r → Smaller d r e → standing_above x (d ∷ l) ≡ if (is_post e) (some e) (standing_above e.key (d ∷ l))
-    here ih over none r is = rw is (own over (gap-none x d.key l r))
-    here ih over (some m) r is =
+    here : ((m : Entry) → least_above x l ≡ Some m → standing_above x l ≡ if (is_post m) (Some m) (standing_above m.key l)) → x < d.key → (r : Option Entry) → least_above x l ≡ r → Smaller d r e → standing_above x (d ∷ l) ≡ if (is_post e) (Some e) (standing_above e.key (d ∷ l))
+    here ih over None r is = rw is (own over (gap-none x d.key l r))
+    here ih over (Some m) r is =
         ⊎_elim
         (λ (v : (m.key ≤ d.key) × (e ≡ m)).
         rw v.1

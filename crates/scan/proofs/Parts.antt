@@ -8,6 +8,8 @@ use lib.ListN.{length, take, drop, length-drop, take-append-drop}
 use lib.Seq.{length-take-le, take-append-le, drop-append-le, drop-drop}
 use lib.Dec.{leb, ltb, eqb}
 use borrow.Author.Tests.{leb-true, eqb-true, ltb-true}
+use Rattle.std.specs.Prelude.{Option, None, Some, Result, Ok, Err}
+use Rattle.rules.specs.declared.refusal.Damage.{Damage}
 use Rattle.rules.specs.declared.Entry.{Entry}
 use Rattle.rules.specs.declared.Head.{Head}
 use Rattle.rules.specs.declared.Sector.{Sector}
@@ -17,13 +19,11 @@ use Rattle.rules.specs.Layout.{base}
 use Rattle.rules.specs.Plain.{if, ◌&◌, zeros}
 use Rattle.rules.specs.Sector.{sector_at, legal, other_row, fields, decode, is_index, is_root}
 use Rattle.laws.proofs.Tools.{and-true}
-use Rattle.scan.specs.declared.Found.{Found}
-use Rattle.scan.specs.declared.Found.TheVariants.{Damage, Nothing, Hit}
 use Rattle.scan.specs.declared.Way.{Way}
-use Rattle.scan.specs.declared.Way.TheVariants.{Lost, Down, Absent, Copy}
+use Rattle.scan.specs.declared.Way.TheVariants.{Down, End}
 use Rattle.scan.specs.declared.Leg.{Leg}
-use Rattle.scan.specs.declared.Leg.TheVariants.{Gone, Stand, Over}
-use Rattle.scan.specs.Scan.{sectors, all_blank, scan_in, over, below, choose, pick, way_of, search, pick_root, search_log}
+use Rattle.scan.specs.declared.Leg.TheVariants.{Stand, Over}
+use Rattle.scan.specs.Scan.{Found, damaged, root_in, sectors, all_blank, scan_in, over, below, choose, pick, way_of, search, pick_root, search_log}
 use Rattle.scan.specs.Look.{search_at, part_of}
 use Rattle.scan.specs.Next.{under, above, above_at, pick_up, weigh, stand_in, sectors_of, leg_of, stride, leg_scan, leg_from, leg}
 
@@ -93,24 +93,31 @@ sectors-fine n card i zero = tt
 sectors-fine n card i (suc c) = (decode-fine n (sector_at card i), sectors-fine n card (suc i) c)
 
 -- what is found, if anything, has P
-abbrev Sure : (Entry → Type 0) → Found → Type 0
-Sure P Damage = Unit {0}
-Sure P Nothing = Unit {0}
-Sure P (Hit e) = P e
+abbrev Sure : (Entry → Type 0) → Option Entry → Type 0
+Sure P None = Unit {0}
+Sure P (Some e) = P e
 
-if-sure : (P : Entry → Type 0) (b : Bool) (f g : Found) → (b ≡ true → Sure P f) → Sure P g → Sure P (if b f g)
+if-sure : (P : Entry → Type 0) (b : Bool) (f g : Option Entry) → (b ≡ true → Sure P f) → Sure P g → Sure P (if b f g)
 if-sure P true f g a c = a refl
 if-sure P false f g a c = c
 
-scan-sure : (n : ℕ) (P : Entry → Type 0) (ok : Entry → Bool) (pick : Found → Entry → Found)
-    → ((best : Found) (e : Entry) → ok e ≡ true → legal n e ≡ true → Sure P best → Sure P (pick best e))
-    → (ss : List Sector) → AllFine n ss → (best : Found) → Sure P best → Sure P (scan_in ok pick ss best)
+-- and so what a scan found, if it met no damage
+abbrev FoundSure : (Entry → Type 0) → Found → Type 0
+FoundSure P (Err d) = Unit {0}
+FoundSure P (Ok r) = Sure P r
+
+if-found : (P : Entry → Type 0) (b : Bool) (f : Found) → (b ≡ true → FoundSure P f) → FoundSure P (if b f damaged)
+if-found P true f a = a refl
+if-found P false f a = tt
+
+scan-sure : (n : ℕ) (P : Entry → Type 0) (ok : Entry → Bool) (pick : Option Entry → Entry → Option Entry)
+    → ((best : Option Entry) (e : Entry) → ok e ≡ true → legal n e ≡ true → Sure P best → Sure P (pick best e))
+    → (ss : List Sector) → AllFine n ss → (best : Option Entry) → Sure P best → FoundSure P (scan_in ok pick ss best)
 unfolding scan_in
 scan-sure n P ok pick step [] fine best s = s
-scan-sure n P ok pick step (Blank ∷ ss) fine best s = if-sure P (all_blank ss) best Damage (λ e. s) tt
+scan-sure n P ok pick step (Blank ∷ ss) fine best s = if-found P (all_blank ss) (Ok best) (λ e. s)
 scan-sure n P ok pick step (Held e ∷ ss) fine best s =
-    if-sure P (ok e) (scan_in ok pick ss (pick best e)) Damage
-    (λ o. scan-sure n P ok pick step ss fine.1 (pick best e) (step best e o fine.0 s)) tt
+    if-found P (ok e) (scan_in ok pick ss (pick best e)) (λ o. scan-sure n P ok pick step ss fine.1 (pick best e) (step best e o fine.0 s))
 scan-sure n P ok pick step (Damaged ∷ ss) fine best s = tt
 
 -- a bucket of the card
@@ -141,44 +148,41 @@ joins-index h e i j =
     let m : is_index e & leb h.key e.key ≡ true = rw i at j in
     (and-true (is_index e) (leb h.key e.key) m).0
 
-over-sure : (P : Entry → Type 0) (best : Found) (e : Entry) → P e → Sure P best → Sure P (over best e)
+over-sure : (P : Entry → Type 0) (best : Option Entry) (e : Entry) → P e → Sure P best → Sure P (over best e)
 unfolding over
-over-sure P Damage e p s = tt
-over-sure P Nothing e p s = p
-over-sure P (Hit o) e p s = if-sure P (leb o.key e.key) (Hit e) (Hit o) (λ b. p) s
+over-sure P None e p s = p
+over-sure P (Some o) e p s = if-sure P (leb o.key e.key) (Some e) (Some o) (λ b. p) s
 
-pick-sure : (P : Entry → Type 0) (x t : ℕ) (best : Found) (e : Entry) → P e → Sure P best → Sure P (pick true x t best e)
+pick-sure : (P : Entry → Type 0) (x t : ℕ) (best : Option Entry) (e : Entry) → P e → Sure P best → Sure P (pick true x t best e)
 unfolding pick choose below
 pick-sure P x t best e p s =
     if-sure P (leb e.stamp t) (if (leb e.key x) (over best e) best) best
     (λ a. if-sure P (leb e.key x) (over best e) best (λ b. over-sure P best e p s) s) s
 
-abbrev WaySure : (Entry → Type 0) → Way → Type 0
-WaySure P Lost = Unit {0}
-WaySure P (Down e) = P e
-WaySure P Absent = Unit {0}
-WaySure P (Copy e) = Unit {0}
+abbrev WaySure : (Entry → Type 0) → Result Way Damage → Type 0
+WaySure P (Err d) = Unit {0}
+WaySure P (Ok (Down e)) = P e
+WaySure P (Ok (End c)) = Unit {0}
 
-way-sure : (P : Entry → Type 0) (i : Bool) (f : Found) → (i ≡ true → Sure P f) → WaySure P (way_of i f)
+way-sure : (P : Entry → Type 0) (i : Bool) (f : Found) → (i ≡ true → FoundSure P f) → WaySure P (way_of i f)
 unfolding way_of
-way-sure P true Damage s = tt
-way-sure P false Damage s = tt
-way-sure P true Nothing s = tt
-way-sure P true (Hit e) s = s refl
-way-sure P false Nothing s = tt
-way-sure P false (Hit e) s = tt
+way-sure P true (Err d) s = tt
+way-sure P false (Err d) s = tt
+way-sure P true (Ok None) s = tt
+way-sure P true (Ok (Some e)) s = s refl
+way-sure P false (Ok r) s = tt
 
 search-sure : (n k x t : ℕ) (ss : List Sector) → AllFine n ss → WaySure (Inside n) (search k x t ss)
 unfolding search
 search-sure n k x t [] f = tt
 search-sure n k x t (Blank ∷ ss) f = tt
 search-sure n k x t (Held h ∷ ss) f =
-    let w : WaySure (Inside n) (way_of (is_index h) (scan_in (joins h) (pick (is_index h) x t) (Held h ∷ ss) Nothing))
-    = way-sure (Inside n) (is_index h) (scan_in (joins h) (pick (is_index h) x t) (Held h ∷ ss) Nothing)
+    let w : WaySure (Inside n) (way_of (is_index h) (scan_in (joins h) (pick (is_index h) x t) (Held h ∷ ss) None))
+    = way-sure (Inside n) (is_index h) (scan_in (joins h) (pick (is_index h) x t) (Held h ∷ ss) None)
     (λ (i : is_index h ≡ true). rw i
     (scan-sure n (Inside n) (joins h) (pick true x t)
-    (λ best e o l s. pick-sure (Inside n) x t best e (index-inside n e (joins-index h e i o) l) s) (Held h ∷ ss) f Nothing tt)) in
-    elim (eqb h.key k) as (λ b. WaySure (Inside n) (if b (way_of (is_index h) (scan_in (joins h) (pick (is_index h) x t) (Held h ∷ ss) Nothing)) Lost))
+    (λ best e o l s. pick-sure (Inside n) x t best e (index-inside n e (joins-index h e i o) l) s) (Held h ∷ ss) f None tt)) in
+    elim (eqb h.key k) as (λ b. WaySure (Inside n) (if b (way_of (is_index h) (scan_in (joins h) (pick (is_index h) x t) (Held h ∷ ss) None)) damaged))
     [ true ↦ w | false ↦ tt ]
 search-sure n k x t (Damaged ∷ ss) f = tt
 
@@ -189,75 +193,82 @@ at-sure h card x t (suc b) k =
     search-sure h.n k x t (sectors h.n card (base h (suc b)) h.m) (sectors-fine h.n card (base h (suc b)) h.m)
 
 -- an index entry that is followed names a bucket of the card
-pub down-inside : (h : Head) (card : List ℕ) (x t b k : ℕ) (s : Way) (e : Entry) → s ≡ search_at h card x t b k → s ≡ Down e → Inside h.n e
+pub down-inside : (h : Head) (card : List ℕ) (x t b k : ℕ) (s : Result Way Damage) (e : Entry) → s ≡ search_at h card x t b k → s ≡ Ok (Down e) → Inside h.n e
 down-inside h card x t b k s e said is = let q = sym said ∙ is in subst (WaySure (Inside h.n)) q (at-sure h card x t b k)
 
+abbrev RootSure : (Entry → Type 0) → Result Entry Damage → Type 0
+RootSure P (Err d) = Unit {0}
+RootSure P (Ok e) = P e
+
+root-sure : (P : Entry → Type 0) (f : Found) → FoundSure P f → RootSure P (root_in f)
+unfolding root_in
+root-sure P (Err d) s = tt
+root-sure P (Ok None) s = tt
+root-sure P (Ok (Some e)) s = s
+
 -- and so does the root entry
-pub root-found : (n : ℕ) (card : List ℕ) (t i c : ℕ) (e : Entry) → search_log t (sectors n card i c) ≡ Hit e → Inside n e
+pub root-found : (n : ℕ) (card : List ℕ) (t i c : ℕ) (e : Entry) → search_log t (sectors n card i c) ≡ Ok e → Inside n e
 unfolding search_log pick_root
 root-found n card t i c e q =
-    subst (Sure (Inside n)) q
+    let is = subst (RootSure (Inside n)) q in
+    is (root-sure (Inside n) (scan_in is_root (pick_root t) (sectors n card i c) None)
     (scan-sure n (Inside n) is_root (pick_root t)
-    (λ best d o l s. if-sure (Inside n) (leb d.stamp t) (Hit d) best (λ b. root-inside n d o l) s)
-    (sectors n card i c) (sectors-fine n card i c) Nothing tt)
+    (λ best d o l s. if-sure (Inside n) (leb d.stamp t) (Some d) best (λ b. root-inside n d o l) s)
+    (sectors n card i c) (sectors-fine n card i c) None tt))
 
 -- the keys that next walks to rise
 abbrev Above : ℕ → Entry → Type 0
 Above x e = x < e.key
 
-under-sure : (P : Entry → Type 0) (best : Found) (e : Entry) → P e → Sure P best → Sure P (under best e)
+under-sure : (P : Entry → Type 0) (best : Option Entry) (e : Entry) → P e → Sure P best → Sure P (under best e)
 unfolding under
-under-sure P Damage e p s = tt
-under-sure P Nothing e p s = p
-under-sure P (Hit o) e p s = if-sure P (leb e.key o.key) (Hit e) (Hit o) (λ b. p) s
+under-sure P None e p s = p
+under-sure P (Some o) e p s = if-sure P (leb e.key o.key) (Some e) (Some o) (λ b. p) s
 
-up-sure : (x t : ℕ) (best : Found) (e : Entry) → Sure (Above x) best → Sure (Above x) (pick_up x t best e)
+up-sure : (x t : ℕ) (best : Option Entry) (e : Entry) → Sure (Above x) best → Sure (Above x) (pick_up x t best e)
 unfolding pick_up above_at above
 up-sure x t best e s =
     if-sure (Above x) (is_index e) (if (leb e.stamp t) (if (ltb x e.key) (under best e) best) best) best
     (λ i. if-sure (Above x) (leb e.stamp t) (if (ltb x e.key) (under best e) best) best
     (λ a. if-sure (Above x) (ltb x e.key) (under best e) best (λ b. under-sure (Above x) best e (ltb-true x e.key b) s) s) s) s
 
-weigh-sure : (x t : ℕ) (ss : List Sector) (best : Found) → Sure (Above x) best → Sure (Above x) (weigh (pick_up x t) ss best)
+weigh-sure : (x t : ℕ) (ss : List Sector) (best : Option Entry) → Sure (Above x) best → Sure (Above x) (weigh (pick_up x t) ss best)
 unfolding weigh
 weigh-sure x t [] best s = s
 weigh-sure x t (Blank ∷ ss) best s = s
 weigh-sure x t (Held e ∷ ss) best s = weigh-sure x t ss (pick_up x t best e) (up-sure x t best e s)
 weigh-sure x t (Damaged ∷ ss) best s = s
 
-abbrev LegSure : (Entry → Type 0) → Leg → Type 0
-LegSure P Gone = Unit {0}
-LegSure P (Stand e) = Unit {0}
-LegSure P (Over f) = Sure P f
+abbrev LegSure : (Entry → Type 0) → Result Leg Damage → Type 0
+LegSure P (Err d) = Unit {0}
+LegSure P (Ok (Stand e)) = Unit {0}
+LegSure P (Ok (Over f)) = Sure P f
 
-legof-sure : (P : Entry → Type 0) (f up : Found) → Sure P up → LegSure P (leg_of f up)
+legof-sure : (P : Entry → Type 0) (f up : Option Entry) → Sure P up → LegSure P (Ok (leg_of f up))
 unfolding leg_of
-legof-sure P Damage up s = s
-legof-sure P Nothing up s = s
-legof-sure P (Hit e) up s = tt
+legof-sure P None up s = s
+legof-sure P (Some e) up s = tt
 
-stride-sure : (P : Entry → Type 0) (w : Way) (here : Leg) (on : ℕ → ℕ → Leg) → LegSure P here → ((b k : ℕ) → LegSure P (on b k)) → LegSure P (stride w here on)
+stride-sure : (P : Entry → Type 0) (w : Result Way Damage) (here : Leg) (on : ℕ → ℕ → Result Leg Damage) → LegSure P (Ok here) → ((b k : ℕ) → LegSure P (on b k)) → LegSure P (stride w here on)
 unfolding stride
-stride-sure P Lost here on s f = tt
-stride-sure P (Down e) here on s f = f e.value e.key
-stride-sure P Absent here on s f = s
-stride-sure P (Copy e) here on s f = s
+stride-sure P (Err d) here on s f = tt
+stride-sure P (Ok (Down e)) here on s f = f e.value e.key
+stride-sure P (Ok (End c)) here on s f = s
 
-scan-leg : (h : Head) (card : List ℕ) (k x t f : ℕ) (up : Found) → Sure (Above x) up → (b j : ℕ) → LegSure (Above x) (leg_scan h card k x t f up b j)
+scan-leg : (h : Head) (card : List ℕ) (k x t f : ℕ) (up : Option Entry) → Sure (Above x) up → (b j : ℕ) → LegSure (Above x) (leg_scan h card k x t f up b j)
 unfolding leg_scan
 scan-leg h card k x t zero up s b j = tt
 scan-leg h card k x t (suc f) up s b j =
     let more = weigh (pick_up x t) (sectors_of h card b) up in
     let sure = weigh-sure x t (sectors_of h card b) up s in
-    stride-sure (Above x) (search_at h card x t b j) (leg_of (stand_in k t (sectors_of h card b) Nothing) more) (leg_scan h card k x t f more)
-    (legof-sure (Above x) (stand_in k t (sectors_of h card b) Nothing) more sure) (λ c i. scan-leg h card k x t f more sure c i)
+    stride-sure (Above x) (search_at h card x t b j) (leg_of (stand_in k t (sectors_of h card b) None) more) (leg_scan h card k x t f more)
+    (legof-sure (Above x) (stand_in k t (sectors_of h card b) None) more sure) (λ c i. scan-leg h card k x t f more sure c i)
 
-from-sure : (h : Head) (card : List ℕ) (k x t : ℕ) (o : Found) → LegSure (Above x) (leg_from h card k x t o)
+from-sure : (h : Head) (card : List ℕ) (k x t : ℕ) (o : Result Entry Damage) → LegSure (Above x) (leg_from h card k x t o)
 unfolding leg_from
-from-sure h card k x t Damage = tt
-from-sure h card k x t Nothing = tt
-from-sure h card k x t (Hit e) = scan-leg h card k x t h.n Nothing tt e.value 0
+from-sure h card k x t (Err d) = tt
+from-sure h card k x t (Ok e) = scan-leg h card k x t h.n None tt e.value 0
 
-pub over-above : (h : Head) (card : List ℕ) (k t x : ℕ) (e : Entry) → leg h card k t x ≡ Over (Hit e) → x < e.key
+pub over-above : (h : Head) (card : List ℕ) (k t x : ℕ) (e : Entry) → leg h card k t x ≡ Ok (Over (Some e)) → x < e.key
 unfolding leg
 over-above h card k t x e q = subst (LegSure (Above x)) q (from-sure h card k x t (search_log t (sectors h.n card 1 h.n)))

@@ -1,12 +1,11 @@
 -- The pass over a data bucket from its last sector down: what its loops have, and what they give.
-use Rattle.std.specs.Prelude.{ℕ, zero, suc, Bool, true, false, List, [], ◌∷◌}
+use Rattle.std.specs.Prelude.{ℕ, zero, suc, Bool, true, false, None, Some, Ok, List, [], ◌∷◌}
 use Rattle.rules.specs.declared.Entry.{Entry}
 use Rattle.rules.specs.declared.Sector.{Sector}
 use Rattle.rules.specs.declared.Sector.TheVariants.{Blank, Held, Damaged}
 use Rattle.rules.specs.Plain.{if, ◌&◌}
 use Rattle.rules.specs.Sector.{decode, sector_at}
-use Rattle.scan.specs.declared.Found.{Found}
-use Rattle.scan.specs.declared.Found.TheVariants.{Damage, Nothing, Hit}
+use Rattle.scan.specs.Scan.{Found, damaged}
 
 -- the first c sectors of some bytes, the last of them first
 unfoldable pub last_first : ℕ → List ℕ → ℕ → List Sector
@@ -33,7 +32,7 @@ sound ok (s ∷ ss) = holds ok s & sound ok ss
 
 -- the first entry wanted decides; what is left after it is only judged
 unfoldable pub first_in : (Entry → Bool) → (Entry → Bool) → List Sector → Found
-first_in ok want [] = Nothing
-first_in ok want (Blank ∷ ss) = Damage
-first_in ok want (Held e ∷ ss) = if (ok e) (if (want e) (if (sound ok ss) (Hit e) Damage) (first_in ok want ss)) Damage
-first_in ok want (Damaged ∷ ss) = Damage
+first_in ok want [] = Ok None
+first_in ok want (Blank ∷ ss) = damaged
+first_in ok want (Held e ∷ ss) = if (ok e) (if (want e) (if (sound ok ss) (Ok (Some e)) damaged) (first_in ok want ss)) damaged
+first_in ok want (Damaged ∷ ss) = damaged

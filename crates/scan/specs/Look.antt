@@ -1,22 +1,21 @@
 -- The walk with its counter, and the look, as the loops run.
-use Rattle.std.specs.Prelude.{ℕ, zero, suc, ◌+◌, ◌*◌, List, ltb, eqb, take, drop}
-use Rattle.std.proofs.Math.Option.{Option, none, some}
+use Rattle.std.specs.Prelude.{ℕ, zero, suc, ◌+◌, ◌*◌, Option, None, Some, Result, Ok, Err, List, ltb, eqb, take, drop}
 use Rattle.rules.specs.declared.Head.{Head}
 use Rattle.rules.specs.declared.Answer.{Answer}
 use Rattle.rules.specs.Answers.{refused, sheet}
 use Rattle.rules.specs.Layout.{base, head_of, beginning}
 use Rattle.rules.specs.Plain.{if}
 use Rattle.rules.specs.Walk.{standing}
-use Rattle.scan.specs.declared.Found.{Found}
-use Rattle.scan.specs.declared.Found.TheVariants.{Damage, Nothing, Hit}
+use Rattle.rules.specs.declared.Entry.{Entry}
+use Rattle.rules.specs.declared.refusal.Damage.{Damage}
 use Rattle.scan.specs.declared.Way.{Way}
-use Rattle.scan.specs.declared.Way.TheVariants.{Lost, Down, Absent, Copy}
+use Rattle.scan.specs.declared.Way.TheVariants.{Down, End}
 use Rattle.scan.specs.declared.Trip.{Trip}
-use Rattle.scan.specs.Scan.{sectors, search, search_log}
+use Rattle.scan.specs.Scan.{damaged, sectors, search, search_log}
 
 -- bucket b of the card, which k was followed to
-unfoldable pub search_at : Head → List ℕ → ℕ → ℕ → ℕ → ℕ → Way
-search_at h card x t zero k = Lost
+unfoldable pub search_at : Head → List ℕ → ℕ → ℕ → ℕ → ℕ → Result Way Damage
+search_at h card x t zero k = damaged
 search_at h card x t (suc b) k = search k x t (sectors h.n card (base h (suc b)) h.m)
 
 -- the bytes of bucket b, as a part of the card
@@ -27,39 +26,37 @@ part_of h card b = take (16 * h.m) (drop (16 * base h b) card)
 unfoldable pub log_of : Head → List ℕ → List ℕ
 log_of h card = take (16 * h.n) (drop 16 card)
 
-abbrev pub trip : ℕ → Found → Trip
-trip r f = record { reads = r; found = f }
+abbrev pub trip : ℕ → Option Entry → Trip
+trip r c = record { reads = r; copy = c }
 
 -- where r buckets have been read, this one too
-unfoldable pub onward : Way → ℕ → (ℕ → ℕ → Trip) → Trip
-onward Lost r on = trip 0 Damage
-onward (Down e) r on = on e.value e.key
-onward Absent r on = trip r Nothing
-onward (Copy e) r on = trip r (Hit e)
+unfoldable pub onward : Result Way Damage → ℕ → (ℕ → ℕ → Result Trip Damage) → Result Trip Damage
+onward (Err d) r on = damaged
+onward (Ok (Down e)) r on = on e.value e.key
+onward (Ok (End copy)) r on = Ok (trip r copy)
 
 -- from bucket b on, f buckets at most, r having been read
-unfoldable pub walk_scan : Head → List ℕ → ℕ → ℕ → ℕ → ℕ → ℕ → ℕ → Trip
-walk_scan h card x t zero r b k = trip 0 Damage
+unfoldable pub walk_scan : Head → List ℕ → ℕ → ℕ → ℕ → ℕ → ℕ → ℕ → Result Trip Damage
+walk_scan h card x t zero r b k = damaged
 walk_scan h card x t (suc f) r b k = onward (search_at h card x t b k) (r + 1) (walk_scan h card x t f (r + 1))
 
 -- from the log's entry on
-unfoldable pub trip_from : Head → List ℕ → ℕ → ℕ → Found → Trip
-trip_from h card x t Damage = trip 0 Damage
-trip_from h card x t Nothing = trip 0 Damage
-trip_from h card x t (Hit e) = walk_scan h card x t h.n 0 e.value 0
+unfoldable pub trip_from : Head → List ℕ → ℕ → ℕ → Result Entry Damage → Result Trip Damage
+trip_from h card x t (Err d) = damaged
+trip_from h card x t (Ok e) = walk_scan h card x t h.n 0 e.value 0
 
 -- the answer to a look
-unfoldable pub told : ℕ → ℕ → Found → Answer
-told bib r Damage = refused 4
-told bib r Nothing = sheet bib r none
-told bib r (Hit e) = sheet bib r (standing (some e))
+unfoldable pub told : ℕ → ℕ → Option Entry → Answer
+told bib r None = sheet bib r None
+told bib r (Some e) = sheet bib r (standing (Some e))
 
-abbrev pub told_of : ℕ → Trip → Answer
-told_of bib w = told bib w.reads w.found
+unfoldable pub told_of : ℕ → Result Trip Damage → Answer
+told_of bib (Err d) = refused 4
+told_of bib (Ok w) = told bib w.reads w.copy
 
 unfoldable pub look_scan_in : ℕ → ℕ → List ℕ → Option Head → Answer
-look_scan_in bib t card none = refused 1
-look_scan_in bib t card (some h) =
+look_scan_in bib t card None = refused 1
+look_scan_in bib t card (Some h) =
     if (eqb bib 0) (refused 2) (if (ltb t (beginning card)) (refused 13) (told_of bib (trip_from h card bib t (search_log t (sectors h.n card 1 h.n)))))
 
 unfoldable pub look_scan : List ℕ → ℕ → ℕ → Answer

@@ -1,6 +1,5 @@
 -- Next as the loops run: the questions to one bucket, the walk that carries the least index key above, the rounds.
-use Rattle.std.specs.Prelude.{ℕ, zero, suc, Bool, true, false, List, [], ◌∷◌, leb, ltb, eqb}
-use Rattle.std.proofs.Math.Option.{Option, none, some}
+use Rattle.std.specs.Prelude.{ℕ, zero, suc, Bool, true, false, Option, None, Some, Result, Ok, Err, List, [], ◌∷◌, leb, ltb, eqb}
 use Rattle.rules.specs.declared.Entry.{Entry}
 use Rattle.rules.specs.declared.Head.{Head}
 use Rattle.rules.specs.declared.Answer.{Answer}
@@ -10,34 +9,32 @@ use Rattle.rules.specs.Answers.{answer, refused, ended}
 use Rattle.rules.specs.Layout.{base, head_of, beginning}
 use Rattle.rules.specs.Plain.{if, ◌&◌}
 use Rattle.rules.specs.Sector.{is_index, is_post}
-use Rattle.scan.specs.declared.Found.{Found}
-use Rattle.scan.specs.declared.Found.TheVariants.{Damage, Nothing, Hit}
+use Rattle.rules.specs.declared.refusal.Damage.{Damage}
 use Rattle.scan.specs.declared.Way.{Way}
-use Rattle.scan.specs.declared.Way.TheVariants.{Lost, Down, Absent, Copy}
+use Rattle.scan.specs.declared.Way.TheVariants.{Down, End}
 use Rattle.scan.specs.declared.Leg.{Leg}
-use Rattle.scan.specs.declared.Leg.TheVariants.{Gone, Stand, Over}
-use Rattle.scan.specs.Scan.{sectors, all_blank, search_log}
+use Rattle.scan.specs.declared.Leg.TheVariants.{Stand, Over}
+use Rattle.scan.specs.Scan.{damaged, sectors, all_blank, search_log}
 use Rattle.scan.specs.Look.{search_at}
 
 -- the smaller key
-unfoldable pub under : Found → Entry → Found
-under Damage e = Damage
-under Nothing e = Hit e
-under (Hit o) e = if (leb e.key o.key) (Hit e) (Hit o)
+unfoldable pub under : Option Entry → Entry → Option Entry
+under None e = Some e
+under (Some o) e = if (leb e.key o.key) (Some e) (Some o)
 
 -- where its key is above x
-unfoldable pub above : ℕ → Found → Entry → Found
+unfoldable pub above : ℕ → Option Entry → Entry → Option Entry
 above x best e = if (ltb x e.key) (under best e) best
 
 -- an index entry with a key above x, stamped t or earlier
-unfoldable pub above_at : ℕ → ℕ → Found → Entry → Found
+unfoldable pub above_at : ℕ → ℕ → Option Entry → Entry → Option Entry
 above_at x t best e = if (leb e.stamp t) (above x best e) best
 
-unfoldable pub pick_up : ℕ → ℕ → Found → Entry → Found
+unfoldable pub pick_up : ℕ → ℕ → Option Entry → Entry → Option Entry
 pick_up x t best e = if (is_index e) (above_at x t best e) best
 
 -- the entries up to the first sector that is none, weighed one after the other
-unfoldable pub weigh : (Found → Entry → Found) → List Sector → Found → Found
+unfoldable pub weigh : (Option Entry → Entry → Option Entry) → List Sector → Option Entry → Option Entry
 weigh pick [] best = best
 weigh pick (Blank ∷ ss) best = best
 weigh pick (Held e ∷ ss) best = weigh pick ss (pick best e)
@@ -51,10 +48,9 @@ runs ok (Held e ∷ ss) = ok e & runs ok ss
 runs ok (Damaged ∷ ss) = false
 
 -- the entry with the smaller key of two that were found; of one key the second
-unfoldable pub lower : Found → Found → Found
-lower a Damage = Damage
-lower a Nothing = a
-lower a (Hit e) = under a e
+unfoldable pub lower : Option Entry → Option Entry → Option Entry
+lower a None = a
+lower a (Some e) = under a e
 
 -- whether a copy of x stamped t or earlier follows
 unfoldable pub later : ℕ → ℕ → List Sector → Bool
@@ -64,17 +60,17 @@ later x t (Held e ∷ ss) = if (leb e.stamp t) (if (eqb e.key x) true (later x t
 later x t (Damaged ∷ ss) = false
 
 -- e, which a later copy of its bib follows or not, against the best so far
-unfoldable pub stands : ℕ → Found → Entry → Found
+unfoldable pub stands : ℕ → Option Entry → Entry → Option Entry
 stands k best e = if (is_post e) (above k best e) best
 
-unfoldable pub unless : Bool → ℕ → Found → Entry → Found
+unfoldable pub unless : Bool → ℕ → Option Entry → Entry → Option Entry
 unless again k best e = if again best (stands k best e)
 
-unfoldable pub pick_next : ℕ → ℕ → Bool → Found → Entry → Found
+unfoldable pub pick_next : ℕ → ℕ → Bool → Option Entry → Entry → Option Entry
 pick_next k t again best e = if (leb e.stamp t) (unless again k best e) best
 
 -- the smallest standing bib above k
-unfoldable pub stand_in : ℕ → ℕ → List Sector → Found → Found
+unfoldable pub stand_in : ℕ → ℕ → List Sector → Option Entry → Option Entry
 stand_in k t [] best = best
 stand_in k t (Blank ∷ ss) best = best
 stand_in k t (Held e ∷ ss) best = stand_in k t ss (pick_next k t (later e.key t ss) best e)
@@ -84,49 +80,45 @@ stand_in k t (Damaged ∷ ss) best = best
 unfoldable pub sectors_of : Head → List ℕ → ℕ → List Sector
 sectors_of h card b = sectors h.n card (base h b) h.m
 
-unfoldable pub leg_of : Found → Found → Leg
-leg_of Damage up = Over up
-leg_of Nothing up = Over up
-leg_of (Hit e) up = Stand e
+unfoldable pub leg_of : Option Entry → Option Entry → Leg
+leg_of None up = Over up
+leg_of (Some e) up = Stand e
 
 -- the data bucket asked for the bib, or the walk on
-unfoldable pub stride : Way → Leg → (ℕ → ℕ → Leg) → Leg
-stride Lost here on = Gone
-stride (Down e) here on = on e.value e.key
-stride Absent here on = here
-stride (Copy e) here on = here
+unfoldable pub stride : Result Way Damage → Leg → (ℕ → ℕ → Result Leg Damage) → Result Leg Damage
+stride (Err d) here on = damaged
+stride (Ok (Down e)) here on = on e.value e.key
+stride (Ok (End copy)) here on = Ok here
 
 -- from bucket b on, f buckets at most; up is the least index key above x so far
-unfoldable pub leg_scan : Head → List ℕ → ℕ → ℕ → ℕ → ℕ → Found → ℕ → ℕ → Leg
-leg_scan h card k x t zero up b j = Gone
+unfoldable pub leg_scan : Head → List ℕ → ℕ → ℕ → ℕ → ℕ → Option Entry → ℕ → ℕ → Result Leg Damage
+leg_scan h card k x t zero up b j = damaged
 leg_scan h card k x t (suc f) up b j =
     let more = weigh (pick_up x t) (sectors_of h card b) up in
-    stride (search_at h card x t b j) (leg_of (stand_in k t (sectors_of h card b) Nothing) more) (leg_scan h card k x t f more)
+    stride (search_at h card x t b j) (leg_of (stand_in k t (sectors_of h card b) None) more) (leg_scan h card k x t f more)
 
-unfoldable pub leg_from : Head → List ℕ → ℕ → ℕ → ℕ → Found → Leg
-leg_from h card k x t Damage = Gone
-leg_from h card k x t Nothing = Gone
-leg_from h card k x t (Hit e) = leg_scan h card k x t h.n Nothing e.value 0
+unfoldable pub leg_from : Head → List ℕ → ℕ → ℕ → ℕ → Result Entry Damage → Result Leg Damage
+leg_from h card k x t (Err d) = damaged
+leg_from h card k x t (Ok e) = leg_scan h card k x t h.n None e.value 0
 
 -- one walk to x
-unfoldable pub leg : Head → List ℕ → ℕ → ℕ → ℕ → Leg
+unfoldable pub leg : Head → List ℕ → ℕ → ℕ → ℕ → Result Leg Damage
 leg h card k t x = leg_from h card k x t (search_log t (sectors h.n card 1 h.n))
 
 -- what to do after it
-unfoldable pub after : Leg → (ℕ → Answer) → Answer
-after Gone on = refused 4
-after (Stand e) on = answer 0 e.key e.stamp e.status e.value 0
-after (Over Damage) on = ended
-after (Over Nothing) on = ended
-after (Over (Hit e)) on = on e.key
+unfoldable pub after : Result Leg Damage → (ℕ → Answer) → Answer
+after (Err d) on = refused 4
+after (Ok (Stand e)) on = answer 0 e.key e.stamp e.status e.value 0
+after (Ok (Over None)) on = ended
+after (Ok (Over (Some e))) on = on e.key
 
 unfoldable pub rounds : Head → List ℕ → ℕ → ℕ → ℕ → ℕ → Answer
 rounds h card k t zero x = ended
 rounds h card k t (suc f) x = after (leg h card k t x) (rounds h card k t f)
 
 unfoldable pub next_scan_in : ℕ → ℕ → List ℕ → Option Head → Answer
-next_scan_in k t card none = refused 1
-next_scan_in k t card (some h) = if (ltb t (beginning card)) (refused 13) (rounds h card k t 4294967296 k)
+next_scan_in k t card None = refused 1
+next_scan_in k t card (Some h) = if (ltb t (beginning card)) (refused 13) (rounds h card k t 4294967296 k)
 
 unfoldable pub next_scan : List ℕ → ℕ → ℕ → Answer
 next_scan card k t = next_scan_in k t card (head_of card)

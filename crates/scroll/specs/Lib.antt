@@ -1,2 +1,3 @@
 pub mod Scroll
 pub mod Records
+pub mod Left

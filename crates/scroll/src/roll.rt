@@ -1,42 +1,66 @@
 // The records of a scroll in a row: counted, and laid down.
-ghost use Rattle.std.specs.Prelude.{◌≡◌, ◌*◌, ◌≤◌, length};
+ghost use Rattle.std.specs.Prelude.{◌≡◌, ◌*◌, ◌≤◌, length, MatchResult};
+ghost use Rattle.std.specs.Iterator.{YieldsFirst, item_count};
 ghost use Rattle.writer.specs.Rows.{puts};
-ghost use Rattle.rules.specs.Records.{rolled, record_of};
-ghost use Rattle.scroll.specs.Records.{tally_of};
+ghost use Rattle.rules.specs.Records.{rolled};
+ghost use Rattle.scroll.specs.Records.{given, tally_of, tally_from};
+ghost use Rattle.scroll.specs.Left.{left};
 
-use crate::Tally;
-use rules::{Answer, Entry};
+use rules::{Entry, Refusal};
 
-// How many records come above a bib, up to so many places, and the number of the refusal that ends them, else 0.
-pub fn counted(card: &[u8], bib: u32, at: u32, places: usize) -> Tally
-    ensures { (result ≡ tally_of (rolled card.now at places bib)) × (result.count ≤ places) }
-{
-    let mut last = bib;
-    let mut i: usize = 0;
-    while i < places {
-        let a = next::next(card, last, at);
-        if a.bib == 0 {
-            return Tally {
-                code: a.code,
-                count: i,
-            };
-        }
-        last = a.bib;
-        i += 1;
-    }
-    Tally { code: 0, count: i }
+// The records above a bib as of a stamp, one after the other, so many at most. The end and a refusal both end them: `counted` tells
+// which.
+#[derive(Drop)]
+pub struct Records<'a> {
+    card: &'a [u8],
+    at: u32,
+    last: u32,
+    places: usize,
 }
 
-pub fn record_of(a: Answer) -> Entry
-    ensures { result ≡ record_of a }
-{
-    Entry {
-        kind: 1,
-        status: a.status,
-        key: a.bib,
-        stamp: a.at,
-        value: a.time,
+impl<'a> Records<'a> {
+    pub fn above(card: &'a [u8], bib: u32, at: u32, places: usize) -> Records<'a>
+        ensures { left result ≡ (rolled card.now at places bib).records }
+    {
+        Records {
+            card,
+            at,
+            last: bib,
+            places,
+        }
     }
+}
+
+impl<'a> Iterator for Records<'a> {
+    type Item = Entry;
+
+    ghost next_gives = { YieldsFirst left };
+
+    ghost remaining = { item_count left };
+
+    fn next(&mut self) -> Option<Entry> {
+        self.places = self.places.checked_sub(1)?;
+        let Ok(Some(e)) = next::following(self.card, self.last, self.at) else {
+            return None;
+        };
+        self.last = e.key;
+        Some(e)
+    }
+}
+
+// How many records come above a bib, up to so many places, unless a refusal ends them.
+pub fn counted(card: &[u8], bib: u32, at: u32, places: usize) -> Result<usize, Refusal>
+    ensures value { tally_from result ≡ tally_of (given (rolled card.now at places bib)) }
+    ensures most { MatchResult result (λ count. count ≤ places) (λ _. Unit {0}) }
+{
+    let mut last = bib;
+    for count in 0..places {
+        let Some(e) = next::following(card, last, at)? else {
+            return Ok(count);
+        };
+        last = e.key;
+    }
+    Ok(places)
 }
 
 // The records above a bib, into the first sectors of the buffer.
@@ -44,16 +68,7 @@ pub fn lay(card: &[u8], bib: u32, at: u32, out: &mut [u8], places: usize)
     requires { 16 * places ≤ length out.old }
     ensures { out.new ≡ puts out.old 0 (rolled card.now at places bib).records }
 {
-    let mut last = bib;
-    let mut i: usize = 0;
-    while i < places {
-        let a = next::next(card, last, at);
-        if a.bib == 0 {
-            return;
-        }
-        let e = record_of(a);
+    for (i, e) in Records::above(card, bib, at, places).enumerate() {
         writer::write_entry(out, i, e);
-        last = a.bib;
-        i += 1;
     }
 }

@@ -2,10 +2,12 @@
 use mathlib.Core.Path.{◌≡◌, ap, ◌∙◌}
 use mathlib.Core.Logic.{⊎_elim}
 use Prim.Native.Nat.{ℕ, zero, suc, ◌+◌, ◌-◌, ◌*◌, ◌/◌, ◌%◌, ◌≤◌, ◌<◌}
-use native.Mathlib.Nat.{add-div_left, add-mod_left, div-eq_of_lt, mod-eq_of_lt, mul-add, mul-le-mul_left, mul-le-mul_right, mul-one, mul-zero, div-mul-le_self, lt-div-mul-add, suc-mul}
+use native.Mathlib.Nat.{add-div_left, add-mul-div_right, div-add-mod', mod-lt, add-mod_left, div-eq_of_lt, mod-eq_of_lt, mul-add, mul-le-mul_left, mul-le-mul_right, mul-one, mul-zero, div-mul-le_self, lt-div-mul-add, suc-mul}
 use native.Mathlib.Omega.{arith}
 use borrow.Author.Tests.{lt-ltb, le-ltb}
 use Rattle.laws.proofs.Tools.{le-or-lt}
+use Rattle.std.specs.Prelude.{min}
+use Rattle.std.specs.Int.{div_ceil}
 use Rattle.season.specs.Storeys.{spot, over, heap}
 
 -- the entries past the first bucket
@@ -15,6 +17,28 @@ over-more q c one =
     let e : q + c + (q - 1) ≡ q + (c + (q - 1)) = omega arith in
     let d : (q + (c + (q - 1))) / q ≡ (c + (q - 1)) / q + 1 = add-div_left (c + (q - 1)) one in
     ap (λ (n : ℕ). n / q) e ∙ d ∙ (let f : (c + (q - 1)) / q + 1 ≡ 1 + (c + (q - 1)) / q = omega arith in f)
+
+-- the library counts them so too
+min-rest : (q r : ℕ) → 1 ≤ q → r < q → (r + (q - 1)) / q ≡ min 1 r
+min-rest q r one lt =
+    ⊎_elim
+    (λ (z : r ≤ 0). let d : (r + (q - 1)) / q ≡ 0 = div-eq_of_lt (let h : r + (q - 1) < q = omega arith in h) in omega arith)
+    (λ (p : 0 < r).
+    let e : r + (q - 1) ≡ q + (r - 1) = omega arith in
+    let d : (q + (r - 1)) / q ≡ (r - 1) / q + 1 = add-div_left (r - 1) one in
+    let z : (r - 1) / q ≡ 0 = div-eq_of_lt (let h : r - 1 < q = omega arith in h) in
+    let f : (r + (q - 1)) / q ≡ 1 = ap (λ (n : ℕ). n / q) e ∙ d ∙ (omega arith) in
+    omega arith)
+    (le-or-lt r 0)
+
+pub over-ceil : (q c : ℕ) → 1 ≤ q → div_ceil c q ≡ over q c
+unfolding over
+over-ceil q c one =
+    let d : c / q * q + c % q ≡ c = div-add-mod' c q in
+    let e : c + (q - 1) ≡ c % q + (q - 1) + c / q * q = omega arith in
+    let f : (c + (q - 1)) / q ≡ (c % q + (q - 1)) / q + c / q = ap (λ (n : ℕ). n / q) e ∙ add-mul-div_right (c % q + (q - 1)) (c / q) one in
+    let r = min-rest q (c % q) one (mod-lt c one) in
+    omega arith
 
 pub over_none : (q : ℕ) → 1 ≤ q → over q 0 ≡ 0
 unfolding over

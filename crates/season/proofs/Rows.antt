@@ -1,6 +1,6 @@
 -- A level's entries laid down at their sectors are what the rule puts into its buckets, and the headers give its pairs.
 use mathlib.Core.Path.{◌≡◌, refl, ap, sym, subst, ◌∙◌}
-use mathlib.Core.Option.{some}
+use Rattle.std.specs.Prelude.{Some}
 use mathlib.Core.List.{List, [], ◌∷◌, ◌++◌}
 use Prim.Native.Nat.{ℕ, zero, suc, ◌+◌, ◌-◌, ◌*◌, ◌≤◌, ◌<◌}
 use native.Mathlib.Omega.{arith}
@@ -29,7 +29,7 @@ use Rattle.season.proofs.Rooms.{base_on}
 pub record Open (h : Head) (card : List ℕ) (b : ℕ) : Type 0 where
   pub shape : Shape h card
   pub least : 1 ≤ b
-  pub free : (c : ℕ) → b ≤ c → c ≤ h.n → raw h card c ≡ some []
+  pub free : (c : ℕ) → b ≤ c → c ≤ h.n → raw h card c ≡ Some []
 
 pub open-into : (h : Head) (card : List ℕ) (b : ℕ) (es : List Entry) → Open h card b → b ≤ h.n → Open h (into h b es card) (b + 1)
 open-into h card b es o most =

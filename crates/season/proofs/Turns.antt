@@ -1,45 +1,24 @@
 -- A turn and the end of each loop that builds a season card.
-use mathlib.Core.Path.{◌≡◌, ap, ◌∙◌}
+use mathlib.Core.Path.{◌≡◌, ap}
 use mathlib.Core.List.{List}
 use Prim.Native.Nat.{ℕ, zero, suc, ◌+◌, ◌-◌, ◌≤◌, ◌<◌}
 use native.Mathlib.Omega.{arith}
 use borrow.Author.Tests.{lt-ltb, le-ltb}
-use Rattle.rules.specs.declared.Answer.{Answer}
 use Rattle.rules.specs.declared.Entry.{Entry}
 use Rattle.rules.specs.declared.Head.{Head}
 use Rattle.rules.specs.Sector.{put, encode}
 use Rattle.rules.specs.Layout.{base}
-use Rattle.rules.specs.Next.{next}
-use Rattle.rules.specs.Records.{record_of, rolled}
-use Rattle.scroll.proofs.Rolls.{roll-stop, roll-more, roll-end}
 use mathlib.Core.Logic.{⊎_elim}
 use Rattle.laws.proofs.Tools.{le-or-lt}
 use Rattle.writer.specs.Words.{Narrow}
-use Rattle.season.specs.Storeys.{spot, over, laid, pair_on, raised, tiers, heap}
+use Rattle.season.specs.Storeys.{spot, over, pair_on, raised, tiers, heap}
 use Rattle.season.proofs.Counts.{over-less, heap-more}
-
--- the records of the data level
-module _ (m q i : ℕ) (card : List ℕ) (at c j last : ℕ) (a : Answer) (is : a ≡ next card last at) (lt : j < c) (R target : List ℕ)
-    (h : laid m q i (j + 1) target (rolled card at (c - j) last).records ≡ R) where
-  pub records-stop : a.bib ≡ 0 → target ≡ R
-  records-stop z = rw (roll-stop card at c j last a is lt z) at h
-
-  pub records-more : (new : List ℕ) → new ≡ put target (spot m q i (j + 1)) (encode (record_of a)) → (a.bib ≡ 0 → ⊥)
-      → laid m q i (j + 1 + 1) new (rolled card at (c - (j + 1)) a.bib).records ≡ R
-  records-more new e z = rw e (rw (roll-more card at c j last a is lt z) at h)
-
-pub records-end : (m q i : ℕ) (card : List ℕ) (at c j last : ℕ) → c ≤ j → (R target : List ℕ)
-    → laid m q i (j + 1) target (rolled card at (c - j) last).records ≡ R → target ≡ R
-records-end m q i card at c j last le R target h = rw (roll-end card at c j last le) at h
 
 -- the pairs of an index level
 module _ (h : Head) (s q b i c j : ℕ) (R target : List ℕ) (eq : raised h s q b i j (c - j) target ≡ R) where
   pub raised-more : (new : List ℕ) → j < c → new ≡ put target (spot h.m q i j) (encode (pair_on h s target (b + j)))
       → raised h s q b i (j + 1) (c - (j + 1)) new ≡ R
   raised-more new lt e = let n : c - j ≡ suc (c - (j + 1)) = omega arith in rw e (rw n at eq)
-
-  pub raised-end : c ≤ j → target ≡ R
-  raised-end le = let n : c - j ≡ 0 = omega arith in rw n at eq
 
 pub pair-kind : (h : Head) (s : ℕ) (card : List ℕ) (b : ℕ) (e : Entry) → e ≡ pair_on h s card b → Narrow e
 unfolding pair_on
@@ -66,13 +45,6 @@ module _ (h : Head) (s q b c : ℕ) (R target : List ℕ) (three : 3 ≤ q) (som
           (λ (lt : 1 < over q c). let k = rw (lt-ltb 1 (over q c) lt) at p in let g = heap-more q f (b + c + over q c) (over q c) in omega arith)
           (le-or-lt (over q c) 1)
 
-  pub rest_end : Rest h s q b c R target → (new : List ℕ) → new ≡ raised h s q b (base h (b + c)) 0 c target → over q c ≤ 1 → new ≡ R
-  rest_end r new e le = go r.f r.enough r.gives
-    where
-      go : (f : ℕ) → c ≤ f → tiers h s q f b c target ≡ R → new ≡ R
-      go zero z p = absurd (omega arith)
-      go (suc f) z p = e ∙ (rw (le-ltb 1 (over q c) le) at p)
-
   pub rest_more : Rest h s q b c R target → (new : List ℕ) → new ≡ raised h s q b (base h (b + c)) 0 c target → 1 < over q c → Rest h s q (b + c) (over q c) R new
   rest_more r new e lt = go r.f r.enough r.fits r.gives
     where
@@ -93,13 +65,6 @@ pub record Left (q next c : ℕ) (R : ℕ) : Type 0 where
   pub gives : heap q f next c ≡ R
 
 module _ (q next c R : ℕ) (three : 3 ≤ q) (some : 1 ≤ c) where
-  pub left_end : Left q next c R → over q c ≤ 1 → next + over q c ≡ R
-  left_end l le = go l.f l.enough l.gives
-    where
-      go : (f : ℕ) → c ≤ f → heap q f next c ≡ R → next + over q c ≡ R
-      go zero z p = absurd (omega arith)
-      go (suc f) z p = rw (le-ltb 1 (over q c) le) at p
-
   pub left-more : Left q next c R → 1 < over q c → Left q (next + over q c) (over q c) R
   left-more l lt = go l.f l.enough l.gives
     where

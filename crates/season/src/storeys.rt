@@ -5,13 +5,25 @@ ghost use Rattle.bucket.specs.Shapes.{Shape};
 ghost use Rattle.season.specs.Storeys.{spot, over, laid, pair_on, raised, tiers, heap, fresh, Room};
 
 use rules::{Entry, Head};
+use scroll::roll::Records;
 
-// The sector of entry j of a level whose buckets of m sectors begin at sector i and take q each.
-fn spot(m: usize, q: usize, i: usize, j: usize) -> usize
-    requires { (1 ≤ q) × (spot m q i j ≤ 1000000) }
-    ensures { result ≡ spot m q i j }
-{
-    i + m * (j / q) + j % q
+// A level of the card: its buckets of m sectors begin at sector `first` and take q entries each.
+#[derive(Clone, Copy)]
+pub struct Storey {
+    pub m: usize,
+    pub q: usize,
+    pub first: usize,
+}
+
+impl Storey {
+    // The sector of entry j.
+    #[tactic(auto, unfolding(crate::specs::Storeys::spot))]
+    fn spot(self, j: usize) -> usize
+        requires { (1 ≤ self.q) × (spot self.m self.q self.first j ≤ 1000000) }
+        ensures { result ≡ spot self.m self.q self.first j }
+    {
+        self.first + self.m * (j / self.q) + j % self.q
+    }
 }
 
 // The buckets that c entries fill.
@@ -19,10 +31,10 @@ pub fn over(q: usize, c: usize) -> usize
     requires { (1 ≤ q) × (q ≤ 32) × (c ≤ 10000000000) }
     ensures { result ≡ over q c }
 {
-    (c + (q - 1)) / q
+    c.div_ceil(q)
 }
 
-// The next fresh bucket when a card of so many entries, the dummy with them, is built.
+// The next fresh bucket when a card of so many entries, the dummy with them, is built. The loop counts no index: it ends with the root.
 pub fn needed(q: usize, entries: usize) -> usize
     requires { (3 ≤ q) × (q ≤ 32) × (1 ≤ entries) × (entries ≤ 4294967297) }
     ensures { result ≡ fresh q entries }
@@ -40,30 +52,13 @@ pub fn needed(q: usize, entries: usize) -> usize
 }
 
 // The standing records, each at its sector of the data level; the dummy is entry 0.
-pub fn lay_records(
-    card: &[u8],
-    at: u32,
-    target: &mut [u8],
-    m: usize,
-    q: usize,
-    i: usize,
-    count: usize,
-)
-    requires { Room m q i (count + 1) target.old × (count ≤ 4294967296) }
-    ensures { target.new ≡ laid m q i 1 target.old (rolled card.now at count 0).records }
+pub fn lay_records(card: &[u8], at: u32, target: &mut [u8], storey: Storey, count: usize)
+    requires { Room storey.m storey.q storey.first (count + 1) target.old × (count ≤ 4294967296) }
+    ensures { target.new ≡ laid storey.m storey.q storey.first 1 target.old (rolled card.now at count 0).records }
 {
-    let mut last: u32 = 0;
-    let mut j: usize = 0;
-    while j < count {
-        let a = next::next(card, last, at);
-        if a.bib == 0 {
-            return;
-        }
-        let e = scroll::roll::record_of(a);
-        j += 1;
-        let sector = spot(m, q, i, j);
+    for (j, e) in Records::above(card, 0, at, count).enumerate() {
+        let sector = storey.spot(j + 1);
         writer::write_entry(target, sector, e);
-        last = a.bib;
     }
 }
 
@@ -74,13 +69,7 @@ fn pair_on(card: &[u8], head: Head, stamp: u32, b: usize) -> Entry
 {
     let first = climb::first_sector(head, b);
     let key = sector::read_word(sector::bytes(card, first), 4);
-    Entry {
-        kind: 3,
-        status: 0,
-        key,
-        stamp,
-        value: b as u32,
-    }
+    Entry::index(key, stamp, b as u32)
 }
 
 // The level over the count buckets from bucket b on, its own buckets from sector i on.
@@ -88,13 +77,15 @@ fn raise(target: &mut [u8], head: Head, stamp: u32, q: usize, b: usize, i: usize
     requires { Shape head target.old × Room head.m q i count target.old × (1 ≤ b) × (b + count ≤ head.n + 1) }
     ensures { target.new ≡ raised head stamp q b i 0 count target.old }
 {
-    let m = head.m;
-    let mut j: usize = 0;
-    while j < count {
+    let storey = Storey {
+        m: head.m,
+        q,
+        first: i,
+    };
+    for j in 0..count {
         let e = pair_on(target, head, stamp, b + j);
-        let sector = spot(m, q, i, j);
+        let sector = storey.spot(j);
         writer::write_entry(target, sector, e);
-        j += 1;
     }
 }
 

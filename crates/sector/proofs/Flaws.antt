@@ -1,35 +1,41 @@
--- An entry with a flaw is refused with its number; one without goes on.
-use mathlib.Core.Path.{◌≡◌, refl, ap, sym}
-use mathlib.Core.Bool.{Bool, true, false, not}
-use Prim.Native.Nat.{ℕ}
-use native.Mathlib.Omega.{arith}
-use lib.Dec.{eqb}
+-- An entry that is checked is refused with the check's number; one that passes goes on.
+use Rattle.std.proofs.Common.{◌≡◌, refl, ap, Bool, true, false, not, eqb, Result, Ok, Err}
 use Rattle.rules.specs.declared.Entry.{Entry}
+use Rattle.rules.specs.declared.refusal.Refusal.{Refusal}
+use Rattle.rules.specs.declared.refusal.Refusal.TheVariants.{NoBib, NoStatus}
 use Rattle.rules.specs.Plain.{if}
 use Rattle.rules.specs.Sector.{status_fits}
+use Rattle.rules.specs.Refusals.{number}
 use Rattle.rules.specs.Write.{Plan, refuse, refuse_if}
-use Rattle.sector.specs.Flaws.{flaw_of}
+use Rattle.sector.specs.Flaws.{checked}
 
-by-flaw : (nobody fits : Bool) (rest : Plan) (c : ℕ) → c ≡ if nobody 2 (if fits 0 14) → (c ≡ 0 → ⊥) → refuse_if nobody 2 (refuse_if (not fits) 14 rest) ≡ refuse c
+abbrev told : Bool → Bool → Result (Unit {0}) Refusal
+told nobody fits = if nobody (Err NoBib) (if fits (Ok tt) (Err NoStatus))
+
+-- what document 01 refuses ahead of all else, by whether there is no bib and whether the status fits
+abbrev ahead : Bool → Bool → Plan → Plan
+ahead nobody fits rest = refuse_if nobody 2 (refuse_if (not fits) 14 rest)
+
+refuses : (nobody fits : Bool) (r : Refusal) (rest : Plan) → told nobody fits ≡ Err r → ahead nobody fits rest ≡ refuse (number r)
 unfolding refuse_if
-by-flaw true fits rest c i ne = ap refuse (sym i)
-by-flaw false true rest c i ne = absurd (ne i)
-by-flaw false false rest c i ne = ap refuse (sym i)
+refuses true fits r rest is = let e : NoBib ≡ r = cc in ap (λ (x : Refusal). refuse (number x)) e
+refuses false true r rest is = absurd (cc)
+refuses false false r rest is = let e : NoStatus ≡ r = cc in ap (λ (x : Refusal). refuse (number x)) e
 
-no-flaw : (nobody fits : Bool) (c : ℕ) → c ≡ if nobody 2 (if fits 0 14) → c ≡ 0 → (nobody ≡ false) × (fits ≡ true)
-no-flaw true fits c i z = absurd (omega arith)
-no-flaw false true c i z = (refl, refl)
-no-flaw false false c i z = absurd (omega arith)
+fine : (nobody fits : Bool) → told nobody fits ≡ Ok tt → (nobody ≡ false) × (fits ≡ true)
+fine true fits is = absurd (cc)
+fine false true is = (refl, refl)
+fine false false is = absurd (cc)
 
-module _ (e : Entry) (c : ℕ) (is : c ≡ flaw_of e) where
-  pub flaw-refuses : (c ≡ 0 → ⊥) → (rest : Plan) → refuse_if (eqb e.key 0) 2 (refuse_if (not (status_fits e.status e.value)) 14 rest) ≡ refuse c
-  unfolding flaw_of
-  flaw-refuses ne rest = by-flaw (eqb e.key 0) (status_fits e.status e.value) rest c is ne
+module _ (e : Entry) where
+  pub checked-refuses : (r : Refusal) (rest : Plan) → checked e ≡ Err r → refuse_if (eqb e.key 0) 2 (refuse_if (not (status_fits e.status e.value)) 14 rest) ≡ refuse (number r)
+  unfolding checked
+  checked-refuses r rest is = refuses (eqb e.key 0) (status_fits e.status e.value) r rest is
 
-  pub flawless : c ≡ 0 → (eqb e.key 0 ≡ false) × (status_fits e.status e.value ≡ true)
-  unfolding flaw_of
-  flawless z = no-flaw (eqb e.key 0) (status_fits e.status e.value) c is z
+  pub checked-fine : checked e ≡ Ok tt → (eqb e.key 0 ≡ false) × (status_fits e.status e.value ≡ true)
+  unfolding checked
+  checked-fine is = fine (eqb e.key 0) (status_fits e.status e.value) is
 
-pub flawless-goes : (e : Entry) (rest : Plan) → ◌≡◌ {A = ℕ} 0 (flaw_of e) → refuse_if (eqb e.key 0) 2 (refuse_if (not (status_fits e.status e.value)) 14 rest) ≡ rest
-unfolding refuse_if
-flawless-goes e rest is = let s = flawless e 0 is refl in rw (s.0, s.1)
+  pub checked-goes : (rest : Plan) → checked e ≡ Ok tt → refuse_if (eqb e.key 0) 2 (refuse_if (not (status_fits e.status e.value)) 14 rest) ≡ rest
+  unfolding refuse_if
+  checked-goes rest is = let s = checked-fine is in rw (s.0, s.1)

@@ -1,45 +1,25 @@
 -- Bytes are all zero where the first is and those behind it are.
-use mathlib.Core.Path.{◌≡◌, refl, ap, ap₂, sym, ◌∙◌}
-use mathlib.Core.Bool.{Bool, true, false}
-use Prim.Native.Nat.{ℕ, zero, suc, ◌+◌, ◌-◌, ◌≤◌, ◌<◌}
-use native.Mathlib.Omega.{arith}
-use native.Mathlib.Numerals.{add-one}
-use mathlib.Core.List.{List, ◌∷◌}
-use lib.ListN.{take, take-append-drop, length-drop}
-use lib.ListN.{length, get_or, drop}
-use lib.Seq.{drop-cons, drop-length, drop-drop, take_all}
-use lib.Dec.{eqb}
+use Rattle.std.proofs.Common.{◌≡◌, refl, ap, ap₂, sym, ◌∙◌, arith, ℕ, suc, zero, ◌+◌, ◌<◌, Bool, true, false, List, [], ◌∷◌, ◌++◌, length, get_or, drop, eqb, bit_or, ◌↔◌, IsTrue, EachIndex}
+use Rattle.std.proofs.lemmas.Nat.{le_or_l, le_or_r}
 use borrow.Author.Tests.{ne_eqb}
+use lib.Seq.{drop-cons, drop-length}
+use native.Mathlib.Numerals.{add-one}
 use Rattle.rules.specs.Plain.{◌&◌, zeros}
 use Rattle.scan.proofs.Blanks.{zeros-append}
 
 not-zero : (a : ℕ) → eqb (suc a) 0 ≡ false
 not-zero a = ne_eqb (suc a) 0 (λ e. omega arith)
 
--- of two numbers that are compared the larger is zero only where both are
-pub larger-right : (a b : ℕ) → a < b → eqb b 0 ≡ (eqb a 0 & eqb b 0)
-larger-right zero b h = refl
-larger-right (suc a) b h = rw (not-zero a, ne_eqb b 0 (λ e. omega arith))
-
-pub larger-left : (a b : ℕ) → b ≤ a → eqb a 0 ≡ (eqb a 0 & eqb b 0)
-larger-left zero zero h = refl
-larger-left zero (suc b) h = absurd (omega arith)
-larger-left (suc a) b h = rw (not-zero a)
+-- two bytes put together are zero only where both are
+or-zero : (a b : ℕ) → eqb (bit_or a b) 0 ≡ (eqb a 0 & eqb b 0)
+or-zero zero zero = refl
+or-zero zero (suc b) = ne_eqb (bit_or 0 (suc b)) 0 (λ e. omega (arith, le_or_r 0 (suc b))) ∙ sym (not-zero b)
+or-zero (suc a) b = ne_eqb (bit_or (suc a) b) 0 (λ e. omega (arith, le_or_l (suc a) b)) ∙ rw (not-zero a)
 
 zeros-first : (x : ℕ) (xs : List ℕ) → zeros (x ∷ xs) ≡ (eqb x 0 & zeros xs)
 unfolding zeros
 zeros-first zero xs = refl
 zeros-first (suc x) xs = rw (not-zero x)
-
-and_assoc : (a b c : Bool) → ((a & b) & c) ≡ (a & (b & c))
-and_assoc true b c = refl
-and_assoc false b c = refl
-
-swap : (a A b B : Bool) → ((a & A) & (b & B)) ≡ ((a & b) & (A & B))
-swap true true b B = refl
-swap true false true B = refl
-swap true false false B = refl
-swap false A b B = refl
 
 -- four parts from byte i on
 abbrev pub four : List ℕ → List ℕ → List ℕ → List ℕ → ℕ → Bool
@@ -48,77 +28,79 @@ four a b c d i = (zeros (drop i a) & zeros (drop i b)) & (zeros (drop i c) & zer
 first-at : (s : List ℕ) (i : ℕ) → i < length s → zeros (drop i s) ≡ (eqb (get_or s i 0) 0 & zeros (drop (i + 1) s))
 first-at s i h = rw (drop-cons s i 0 h, zeros-first, add-one)
 
--- the bytes at i seen too: top is zero where all seen are
-module _ (a b c d : List ℕ) (i : ℕ) (ha : i < length a) (hb : i < length b) (hc : i < length c) (hd : i < length d) where
-  abbrev at : List ℕ → Bool
-  at s = eqb (get_or s i 0) 0
+and_assoc : (a b c : Bool) → ((a & b) & c) ≡ (a & (b & c))
+and_assoc true b c = refl
+and_assoc false b c = refl
+
+swap : (a b A B : Bool) → ((a & b) & (A & B)) ≡ ((a & A) & (b & B))
+swap true true A B = refl
+swap true false true B = refl
+swap true false false B = refl
+swap false b A B = refl
+
+swap_in : (t a A b B c C d D : Bool) → ((t & ((a & b) & (c & d))) & ((A & B) & (C & D))) ≡ (t & (((a & A) & (b & B)) & ((c & C) & (d & D))))
+swap_in t a A b B c C d D =
+    and_assoc t ((a & b) & (c & d)) ((A & B) & (C & D))
+    ∙ ap (λ (z : Bool). t & z) (swap (a & b) (c & d) (A & B) (C & D) ∙ ap₂ (λ (x y : Bool). x & y) (swap a b A B) (swap c d C D))
+
+-- the bytes at i put to the bits seen before
+module _ (a b c d : List ℕ) (i bits : ℕ) where
+  abbrev at : List ℕ → ℕ
+  at s = get_or s i 0
+
+  abbrev nil : List ℕ → Bool
+  nil s = eqb (at s) 0
 
   abbrev on : List ℕ → Bool
   on s = zeros (drop (i + 1) s)
 
-  four-first : four a b c d i ≡ (((at a & at b) & (at c & at d)) & four a b c d (i + 1))
-  four-first =
-      ap₂ (λ (x y : Bool). x & y)
-      (ap₂ (λ (x y : Bool). x & y) (first-at a i ha) (first-at b i hb) ∙ swap (at a) (on a) (at b) (on b))
-      (ap₂ (λ (x y : Bool). x & y) (first-at c i hc) (first-at d i hd) ∙ swap (at c) (on c) (at d) (on d))
-      ∙ swap (at a & at b) (on a & on b) (at c & at d) (on c & on d)
+  all-nil : eqb (bit_or bits (bit_or (bit_or (at a) (at b)) (bit_or (at c) (at d)))) 0 ≡ (eqb bits 0 & ((nil a & nil b) & (nil c & nil d)))
+  all-nil =
+      or-zero bits (bit_or (bit_or (at a) (at b)) (bit_or (at c) (at d)))
+      ∙ ap (λ (z : Bool). eqb bits 0 & z) (or-zero (bit_or (at a) (at b)) (bit_or (at c) (at d)) ∙ ap₂ (λ (x y : Bool). x & y) (or-zero (at a) (at b)) (or-zero (at c) (at d)))
 
-  pub four-step : (top more x y z : ℕ) (w : Bool) → eqb x 0 ≡ (at a & at b) → eqb y 0 ≡ (at c & at d) → eqb z 0 ≡ (eqb x 0 & eqb y 0)
-      → eqb more 0 ≡ (eqb top 0 & eqb z 0) → (eqb top 0 & four a b c d i) ≡ w → (eqb more 0 & four a b c d (i + 1)) ≡ w
-  four-step top more x y z w ex ey ez e inv =
-      ap (λ (k : Bool). k & four a b c d (i + 1)) (e ∙ ap (λ (k : Bool). eqb top 0 & k) (ez ∙ ap₂ (λ (u v : Bool). u & v) ex ey))
-      ∙ and_assoc (eqb top 0) ((at a & at b) & (at c & at d)) (four a b c d (i + 1))
-      ∙ sym (ap (λ (k : Bool). eqb top 0 & k) four-first) ∙ inv
+  pub four-step : i < length a → i < length b → i < length c → i < length d
+      → (eqb (bit_or bits (bit_or (bit_or (at a) (at b)) (bit_or (at c) (at d)))) 0 & four a b c d (i + 1)) ≡ (eqb bits 0 & four a b c d i)
+  four-step ha hb hc hd =
+      rw (first-at a i ha, first-at b i hb, first-at c i hc, first-at d i hd)
+      (ap (λ (z : Bool). z & four a b c d (i + 1)) all-nil ∙ swap_in (eqb bits 0) (nil a) (on a) (nil b) (on b) (nil c) (on c) (nil d) (on d))
 
-and-true : (b : Bool) → b ≡ (b & true)
+and-true : (b : Bool) → (b & true) ≡ b
 and-true true = refl
 and-true false = refl
 
-pub four-end : (a b c d : List ℕ) (i top : ℕ) (w : Bool) → i ≡ length a → i ≡ length b → i ≡ length c → i ≡ length d
-    → (eqb top 0 & four a b c d i) ≡ w → eqb top 0 ≡ w
+none_left : (s : List ℕ) (i : ℕ) → i ≡ length s → zeros (drop i s) ≡ true
 unfolding zeros
-four-end a b c d i top w ha hb hc hd inv = and-true (eqb top 0) ∙ (rw (none a ha, none b hb, none c hc, none d hd) at inv)
+none_left s i e = rw (e, drop-length)
+
+pub four-end : (a b c d : List ℕ) (i bits : ℕ) → i ≡ length a → i ≡ length b → i ≡ length c → i ≡ length d → (eqb bits 0 & four a b c d i) ≡ eqb bits 0
+four-end a b c d i bits ha hb hc hd = rw (none_left a i ha, none_left b i hb, none_left c i hc, none_left d i hd) (and-true (eqb bits 0))
+
+-- the quarters' bits and what is left are the whole
+pub quarters : (a b c d r s : List ℕ) (bits : ℕ) (z : Bool) → s ≡ ((a ++ b) ++ (c ++ d)) ++ r → eqb bits 0 ≡ ((zeros a & zeros b) & (zeros c & zeros d))
+    → eqb bits 0 ≡ z → zeros s ≡ (z & zeros r)
+quarters a b c d r s bits z e is was =
+    ap zeros e ∙ zeros-append ((a ++ b) ++ (c ++ d)) r
+    ∙ ap (λ (x : Bool). x & zeros r) (zeros-append (a ++ b) (c ++ d) ∙ ap₂ (λ (x y : Bool). x & y) (zeros-append a b) (zeros-append c d) ∙ sym is ∙ was)
+
+-- what is asked of each byte is asked of the whole
+all-each : (s : List ℕ) → ((k : ℕ) → k < length s → get_or s k 0 ≡ 0) → zeros s ≡ true
+unfolding zeros
+all-each [] h = refl
+all-each (zero ∷ xs) h = all-each xs (λ k l. h (suc k) (omega arith))
+all-each (suc x ∷ xs) h = absurd (omega (arith, h 0 (omega arith)))
+
+each-all : (s : List ℕ) → zeros s ≡ true → (k : ℕ) → k < length s → get_or s k 0 ≡ 0
+unfolding zeros
+each-all [] z k l = absurd (omega arith)
+each-all (zero ∷ xs) z zero l = refl
+each-all (zero ∷ xs) z (suc k) l = each-all xs z k (omega arith)
+each-all (suc x ∷ xs) z k l = absurd (cc)
+
+pub zeros-each : (b : Bool) (s : List ℕ) → (IsTrue b ↔ EachIndex s (λ k. get_or s k 0 ≡ 0)) → b ≡ zeros s
+zeros-each true s h = sym (all-each s (h.0 refl))
+zeros-each false s h = not_all (zeros s) refl
   where
-    none : (s : List ℕ) → i ≡ length s → zeros (drop i s) ≡ true
-    none s e = rw (e, drop-length)
-
-split : (q : ℕ) (s : List ℕ) → (zeros (take q s) & zeros (drop q s)) ≡ zeros s
-split q s = sym (zeros-append (take q s) (drop q s)) ∙ ap zeros (take-append-drop q s)
-
--- q bytes from byte i on, and those behind them
-next : (q i : ℕ) (s : List ℕ) → (zeros (take q (drop i s)) & zeros (drop (i + q) s)) ≡ zeros (drop i s)
-next q i s = ap (λ (l : List ℕ). zeros (take q (drop i s)) & zeros l) (sym (drop-drop q i s)) ∙ split q (drop i s)
-
--- the quarters and what is left are the whole
-four-whole : (q : ℕ) (s : List ℕ)
-    → (((zeros (take q s) & zeros (take q (drop q s))) & (zeros (take q (drop (q + q) s)) & zeros (take q (drop (q + q + q) s)))) & zeros (drop (q + q + q + q) s)) ≡ zeros s
-four-whole q s =
-    and_assoc (zeros (take q s) & zeros (take q (drop q s))) (zeros (take q (drop (q + q) s)) & zeros (take q (drop (q + q + q) s))) (zeros (drop (q + q + q + q) s))
-    ∙ ap (λ (z : Bool). (zeros (take q s) & zeros (take q (drop q s))) & z)
-    (and_assoc (zeros (take q (drop (q + q) s))) (zeros (take q (drop (q + q + q) s))) (zeros (drop (q + q + q + q) s)) ∙ ap (λ (z : Bool). zeros (take q (drop (q + q) s)) & z) (next q (q + q + q) s) ∙ next q (q + q) s)
-    ∙ and_assoc (zeros (take q s)) (zeros (take q (drop q s))) (zeros (drop (q + q) s)) ∙ ap (λ (z : Bool). zeros (take q s) & z) (next q q s) ∙ split q s
-
-same : (z : Bool) → ((z & z) & (z & z)) ≡ z
-same true = refl
-same false = refl
-
--- the quarters and what is left, as the code cuts them
-module _ (q : ℕ) (s : List ℕ) where
-  abbrev left : Bool
-  left = zeros (take (length s - (q + q + q + q)) (drop (q + q + q + q) s))
-
-  left_is : left ≡ zeros (drop (q + q + q + q) s)
-  left_is =
-      let all : length (drop (q + q + q + q) s) ≤ length s - (q + q + q + q) = omega (arith, length-drop (q + q + q + q) s) in
-      ap zeros (take_all (length s - (q + q + q + q)) (drop (q + q + q + q) s) all)
-
-  pub quarters : (top few all : ℕ)
-      → eqb top 0 ≡ ((zeros (take (q - 0) s) & zeros (take (q + q - q) (drop q s)))
-      & (zeros (take (q + q + q - (q + q)) (drop (q + q) s)) & zeros (take (q + q + q + q - (q + q + q)) (drop (q + q + q) s))))
-      → eqb few 0 ≡ ((left & left) & (left & left)) → eqb all 0 ≡ (eqb top 0 & eqb few 0) → eqb all 0 ≡ zeros s
-  quarters top few all is rest e =
-      let one : q - 0 ≡ q = omega arith in
-      let two : q + q - q ≡ q = omega arith in
-      let three : q + q + q - (q + q) ≡ q = omega arith in
-      let four : q + q + q + q - (q + q + q) ≡ q = omega arith in
-      e ∙ ap₂ (λ (x y : Bool). x & y) (rw (one, two, three, four) at is) (rest ∙ same left ∙ left_is) ∙ four-whole q s
+    not_all : (z : Bool) → zeros s ≡ z → false ≡ z
+    not_all true e = h.1 (each-all s e)
+    not_all false e = refl

@@ -1,41 +1,28 @@
 -- What is known of the bytes that a reader has left and of those that a writer holds, from one part of the input to the next.
-use Rattle.std.specs.Prelude.{◌≡◌, ℕ, ◌<◌, ◌+◌, List, [], ◌∷◌, ◌++◌, length, ⊤, None, Some, IfSome, Ok, Err, OnOk, true}
+use Rattle.std.specs.Prelude.{◌≡◌, ℕ, ◌<◌, ◌+◌, List, [], ◌∷◌, ◌++◌, length, ⊤, None, Some, IfSome}
 use Rattle.std.specs.declared.option.Option.{Option}
-use Rattle.std.specs.declared.result.Result.{Result}
-use Rattle.std.specs.Result.{is_ok}
 use Rattle.std.specs.Io.KnownBytes.{Appends, Consumes, IsAtEnd}
 use mathlib.Core.Path.{refl, sym, ap, ◌∙◌}
 use mathlib.Core.List.{append_assoc, append-nil}
 use native.Mathlib.Numerals.{add-one}
 use lib.ListN.{drop, get_or}
 use lib.Seq.{drop-cons}
+use Rattle.std.proofs.KnownBytes.{Appends-trans}
 use Rattle.rules.specs.Bench.{bench}
-use Rattle.laws.proofs.Tools.{true-false}
 use Rattle.serve.specs.Feeds.{Fed, fed_to, byte_on, fed, heard, last_heard, said, told}
 use Rattle.serve.proofs.Sessions.{told-bench}
 
--- what a call that returned `Ok` promised
-pub had : {T E P : Type 0} (r : Result T E) → is_ok r ≡ true → OnOk r P → P
-had (Ok x) t p = p
-had (Err e) t p = absurd (true-false (sym t))
-
--- a writer that is to hold `all` behind what it held has `left` still to come
+-- a writer that is to get `all` has got some of it, and `left` is still to come
 abbrev pub Still : Option (List ℕ) → Option (List ℕ) → List ℕ → List ℕ → Type 0
-Still None now all left = ⊤
-Still (Some xs) None all left = ⊥
-Still (Some xs) (Some ys) all left = ys ++ left ≡ xs ++ all
+Still before now all left = (got : List ℕ) × Appends before now got × (all ≡ got ++ left)
 
 pub still-on : (before now next : Option (List ℕ)) (all left w more : List ℕ) → Still before now all left → Appends now next w → left ≡ w ++ more
     → Still before next all more
-still-on None now next all left w more s a e = tt
-still-on (Some xs) None next all left w more s a e = absurd s
-still-on (Some xs) (Some ys) None all left w more s a e = absurd a
-still-on (Some xs) (Some ys) (Some zs) all left w more s a e = rw a (append_assoc ys w more ∙ ap (λ (k : List ℕ). ys ++ k) (sym e) ∙ s)
+still-on before now next all left w more s a e =
+    (s.0 ++ w, Appends-trans before now next s.0 w s.1 a, s.2 ∙ ap (λ (k : List ℕ). s.0 ++ k) e ∙ sym (append_assoc s.0 w more))
 
 pub still-done : (before now : Option (List ℕ)) (all : List ℕ) → Still before now all [] → Appends before now all
-still-done None now all s = tt
-still-done (Some xs) None all s = absurd s
-still-done (Some xs) (Some ys) all s = sym (append-nil ys) ∙ s
+still-done before now all s = rw (s.2, append-nil s.0) s.1
 
 -- a byte more of what was read
 pub said-more : (card kept got : List ℕ) (i : ℕ) (one : Fed) → i < length got → one ≡ byte_on card kept (get_or got i 0)

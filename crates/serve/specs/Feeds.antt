@@ -1,17 +1,8 @@
 -- The bytes of the input in turn: what they make of the card and of the line that is being read, of which 128 bytes are kept.
-use Rattle.std.specs.Prelude.{ℕ, ◌≤◌, ◌≡◌, List, [], ◌∷◌, ◌++◌, length, take, eqb}
+use Rattle.std.specs.Prelude.{ℕ, ◌≡◌, List, [], ◌∷◌, ◌++◌, take, eqb}
 use Rattle.rules.specs.Plain.{if}
 use Rattle.rules.specs.Bench.{bench_line, answer_line, bench}
-use Rattle.serve.specs.declared.State.{State}
-use Rattle.session.specs.Cards.{Room}
-
--- between two bytes
-pub record Ready (room card out : List ℕ) (s : State) : Type 0 where
-  pub long : length room ≡ 128
-  pub kept : s.used ≤ 128
-  pub holds : Room card s.len
-  pub wide : length out ≡ 96
-  pub fits : s.said ≤ 96
+use Rattle.serve.specs.declared.bench.Bench.{Bench}
 
 pub record Fed : Type 0 where
   pub card : List ℕ
@@ -19,6 +10,13 @@ pub record Fed : Type 0 where
 
 abbrev pub fed_to : List ℕ → List ℕ → Fed
 fed_to card kept = record { card = card; kept = kept }
+
+-- the card and the line of a bench
+abbrev pub card_of : Bench → List ℕ
+card_of b = take b.len b.card
+
+abbrev pub fed_on : Bench → Fed
+fed_on b = fed_to (card_of b) b.line.items
 
 unfoldable pub keep : List ℕ → ℕ → List ℕ
 keep kept b = take 128 (kept ++ (b ∷ []))

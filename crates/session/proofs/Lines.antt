@@ -1,61 +1,27 @@
 -- What a line does to the bench's card, by what the parser said of it.
 use mathlib.Core.Path.{◌≡◌, refl}
-use mathlib.Core.Logic.{⊎_elim}
 use mathlib.Core.List.{List, [], ◌∷◌}
-use mathlib.Core.Option.{Option, none, some}
 use Prim.Native.Nat.{ℕ, ◌<◌}
 use native.Mathlib.Omega.{arith}
 use lib.ListN.{length}
-use types.Run.{OneOf}
-use denote.Enum.Declared.{tag_of}
-use Rattle.rules.specs.Calls.{Call, format_call, post_call, strike_call, look_call, next_call}
-use Rattle.rules.specs.Layout.{size_of}
-use Rattle.rules.specs.Format.{meant}
-use Rattle.rules.specs.Bench.{first_format, bench_call, bench_done}
-use Rattle.line.specs.declared.Request.TheVariants.{Format}
-use Rattle.line.specs.contracts.Request.{the_type}
-use Rattle.line.specs.Requests.{request_of}
-use Rattle.session.specs.Cards.{done_on}
+use Rattle.rules.specs.Calls.{Call, called}
+use Rattle.rules.specs.Bench.{bench_call}
+use Rattle.line.specs.declared.Request.{Request}
+use Rattle.line.specs.declared.Request.TheVariants.{Format, Post, Strike, Look, Next}
+use Rattle.line.specs.Requests.{call_of}
 
--- a request that is no format
-pub no-format : (card : List ℕ) (k : Option Call) → OneOf (1 ∷ 2 ∷ 3 ∷ 4 ∷ 5 ∷ []) (tag_of the_type (request_of k)) → done_on card (request_of k) ≡ bench_done card k
-unfolding request_of done_on bench_done bench_call
-no-format card none h = refl
-no-format card (some (format_call n m td ti)) h = absurd (zeroth h)
-  where
-    zeroth : OneOf (1 ∷ 2 ∷ 3 ∷ 4 ∷ 5 ∷ []) 0 → ⊥
-    zeroth h = ⊎_elim (λ a. omega arith) (⊎_elim (λ a. omega arith) (⊎_elim (λ a. omega arith) (⊎_elim (λ a. omega arith) (λ a. omega arith)))) h
-no-format [] (some (post_call bib at status time)) h = refl
-no-format [] (some (strike_call bib at)) h = refl
-no-format [] (some (look_call bib at)) h = refl
-no-format [] (some (next_call bib at)) h = refl
-no-format (x ∷ card) (some (post_call bib at status time)) h = refl
-no-format (x ∷ card) (some (strike_call bib at)) h = refl
-no-format (x ∷ card) (some (look_call bib at)) h = refl
-no-format (x ∷ card) (some (next_call bib at)) h = refl
-
--- a request on a card that is there
-pub card-there : (card : List ℕ) (k : Option Call) → 0 < length card → done_on card (request_of k) ≡ bench_done card k
-unfolding request_of done_on bench_done bench_call
+-- a call on a card that is there
+pub card-there : (card : List ℕ) (k : Call) → 0 < length card → called card k ≡ bench_call card k
+unfolding bench_call
 card-there [] k h = absurd (omega arith)
-card-there (x ∷ card) none h = refl
-card-there (x ∷ card) (some (format_call n m td ti)) h = refl
-card-there (x ∷ card) (some (post_call bib at status time)) h = refl
-card-there (x ∷ card) (some (strike_call bib at)) h = refl
-card-there (x ∷ card) (some (look_call bib at)) h = refl
-card-there (x ∷ card) (some (next_call bib at)) h = refl
+card-there (x ∷ card) k h = refl
 
--- the first format
-pub no-card : (k : Option Call) (n m td ti : ℕ) → request_of k ≡ Format n m td ti → first_format (size_of (meant n m td ti)) n m td ti ≡ bench_done [] k
-unfolding request_of bench_done bench_call
-no-card none n m td ti e = let z : ◌≡◌ {A = ℕ} 0 1 = cc in absurd (omega arith)
-no-card (some (post_call bib at status time)) n m td ti e = let z : ◌≡◌ {A = ℕ} 0 1 = cc in absurd (omega arith)
-no-card (some (strike_call bib at)) n m td ti e = let z : ◌≡◌ {A = ℕ} 0 1 = cc in absurd (omega arith)
-no-card (some (look_call bib at)) n m td ti e = let z : ◌≡◌ {A = ℕ} 0 1 = cc in absurd (omega arith)
-no-card (some (next_call bib at)) n m td ti e = let z : ◌≡◌ {A = ℕ} 0 1 = cc in absurd (omega arith)
-no-card (some (format_call a b c d)) n m td ti e =
-    let p : a ≡ n = cc in
-    let q : b ≡ m = cc in
-    let r : c ≡ td = cc in
-    let s : d ≡ ti = cc in
-    rw (p, q, r, s)
+-- a request that is no format, whether the card is there or not
+pub no-format : (card : List ℕ) (q : Request) → ((buckets sectors td ti : ℕ) → q ≡ Format buckets sectors td ti → ⊥) → called card (call_of q) ≡ bench_call card (call_of q)
+unfolding bench_call
+no-format [] (Format buckets sectors td ti) h = absurd (h buckets sectors td ti refl)
+no-format [] (Post bib at status time) h = refl
+no-format [] (Strike bib at) h = refl
+no-format [] (Look bib at) h = refl
+no-format [] (Next bib at) h = refl
+no-format (x ∷ card) q h = refl

@@ -2,14 +2,15 @@
 #![tactic(auto)]
 
 ghost use Rattle.std.specs.Prelude.{◌≡◌, take};
-ghost use Rattle.rules.specs.Calls.{answered};
+ghost use Rattle.rules.specs.Calls.{answered, called};
 ghost use Rattle.rules.specs.Layout.{size_of};
 ghost use Rattle.rules.specs.Format.{meant};
 ghost use Rattle.rules.specs.Bench.{first_format, bench_line};
-ghost use Rattle.session.specs.Cards.{Room, done_on};
+ghost use Rattle.line.specs.Requests.{call_of};
+ghost use Rattle.session.specs.Cards.{Room};
 
 use line::Request;
-use rules::Answer;
+use rules::{Answer, Refusal};
 
 // The card's length after a line, and the answer to it.
 #[derive(Clone, Copy)]
@@ -19,38 +20,36 @@ pub struct Acted {
 }
 
 // A request that is not the first format, on the card alone.
-fn call(card: &mut [u8], q: Request) -> Answer
-    ensures { answered card.new result ≡ done_on card.old q }
+#[tactic(auto, unfolding(rules::specs::Calls::called, rules::specs::Calls::planned, rules::specs::Calls::answered))]
+fn call(card: &mut [u8], request: Request) -> Answer
+    ensures { answered card.new result ≡ called card.old (call_of request) }
 {
-    match q {
-        Request::Format(buckets, sectors, td, ti) => {
-            return format::format(card, buckets, sectors, td, ti);
-        }
-        Request::Post(bib, at, status, time) => {
-            return write::post(card, bib, at, status, time);
-        }
-        Request::Strike(bib, at) => {
-            return write::strike(card, bib, at);
-        }
-        Request::Look(bib, at) => {
-            return walk::look(card, bib, at);
-        }
-        Request::Next(bib, at) => {
-            return next::next(card, bib, at);
-        }
-        Request::Other => {
-            return walk::refusal(10);
-        }
+    match request {
+        Request::Format {
+            buckets,
+            sectors,
+            td,
+            ti,
+        } => format::format(card, buckets, sectors, td, ti),
+        Request::Post {
+            bib,
+            at,
+            status,
+            time,
+        } => write::post(card, bib, at, status, time),
+        Request::Strike { bib, at } => write::strike(card, bib, at),
+        Request::Look { bib, at } => walk::look(card, bib, at),
+        Request::Next { bib, at } => next::next(card, bib, at),
     }
 }
 
 // The card is the buffer's first bytes.
-fn act_on(card: &mut [u8], len: usize, q: Request) -> Acted
+fn act_on(card: &mut [u8], len: usize, request: Request) -> Acted
     requires { Room card.old len }
     ensures room { Room card.new result.len }
-    ensures answer_after { answered (take result.len card.new) result.answer ≡ done_on (take len card.old) q }
+    ensures answer_after { answered (take result.len card.new) result.answer ≡ called (take len card.old) (call_of request) }
 {
-    let answer = call(&mut card[..len], q);
+    let answer = call(&mut card[..len], request);
     Acted { len, answer }
 }
 
@@ -61,32 +60,43 @@ fn first_format(card: &mut [u8], buckets: u32, sectors: u32, td: u32, ti: u32) -
     ensures answer_after { answered (take result.len card.new) result.answer ≡ first_format (size_of (meant buckets sectors td ti)) buckets sectors td ti }
 {
     let behind = buckets as usize * (sectors as usize + 1);
-    if 4095 < behind {
+    let too_long = 4095 < behind;
+    if too_long {
         return Acted {
             len: 0,
-            answer: walk::refusal(8),
+            answer: Answer::from(Refusal::Shape),
         };
     }
     let len = 16 * (1 + behind);
     let answer = format::format(&mut card[..len], buckets, sectors, td, ti);
+    // The exported call's answer, in which acceptance is 0.
     if answer.code == 0 {
-        return Acted { len, answer };
+        Acted { len, answer }
+    } else {
+        Acted { len: 0, answer }
     }
-    Acted { len: 0, answer }
 }
 
-// One line on the card that is the buffer's first `len` bytes; 0 where there is none yet.
+// One line on the card that is the buffer's first `len` bytes; 0 where there is none yet. Buffer and length are no struct with
+// `Room` as its invariant: `act` may not ask its callers for a narrower type.
 pub fn act(card: &mut [u8], len: usize, line: &[u8]) -> Acted
     requires { Room card.old len }
     ensures room { Room card.new result.len }
     ensures answer_after { answered (take result.len card.new) result.answer ≡ bench_line (take len card.old) line.now }
 {
-    let q = line::parse(line);
-    let Request::Format(buckets, sectors, td, ti) = q else {
-        return act_on(card, len, q);
+    let Some(request) = line::parse(line) else {
+        return Acted {
+            len,
+            answer: Answer::from(Refusal::NoLine),
+        };
     };
-    if len == 0 {
-        return first_format(card, buckets, sectors, td, ti);
+    match request {
+        Request::Format {
+            buckets,
+            sectors,
+            td,
+            ti,
+        } if len == 0 => first_format(card, buckets, sectors, td, ti),
+        _ => act_on(card, len, request),
     }
-    act_on(card, len, q)
 }

@@ -2,17 +2,20 @@
 #![tactic(auto)]
 
 ghost use Rattle.std.specs.Prelude.{◌≡◌, ◌≤◌};
+ghost use Rattle.rules.specs.Layout.{beginning};
+ghost use Rattle.rules.specs.Refusals.{number};
 ghost use Rattle.rules.specs.State.{state_of, no_state, state};
 
-use rules::{Head, State};
+use bucket::Card;
+use rules::{Refusal, State};
 use survey::Area;
-use walk::Layout;
 
-fn no_state(code: u32) -> State
-    ensures { result ≡ no_state code }
+// A refusal's number, and zeros beside it.
+fn no_state(refusal: Refusal) -> State
+    ensures { result ≡ no_state (number refusal) }
 {
     State {
-        code,
+        code: refusal.number(),
         buckets: 0,
         sectors: 0,
         td: 0,
@@ -23,31 +26,30 @@ fn no_state(code: u32) -> State
     }
 }
 
-fn state_of(head: Head, begin: u32, area: Area) -> State
-    requires { (head.n ≤ 4096) × (head.m ≤ 32) × (head.td ≤ head.m) × (head.ti ≤ head.m) × (area.used ≤ head.n) }
-    ensures { result ≡ state_of head begin area.stamp area.used }
+fn state_of(card: &Card, area: Area) -> State
+    requires { area.used ≤ card.now.head.n }
+    ensures { result ≡ state_of card.now.head (beginning card.now.bytes.now) area.stamp area.used }
 {
+    let head = card.head;
     State {
         code: 0,
         buckets: head.n as u32,
         sectors: head.m as u32,
         td: head.td as u32,
         ti: head.ti as u32,
-        begin,
+        begin: card.beginning(),
         last: area.stamp,
         used: area.used as u32,
     }
 }
 
 // The head's numbers and beginning, the largest stamp and the highest bucket used, from the pass that a write makes too.
+#[tactic(auto, unfolding(rules::specs::State::state, rules::specs::State::state_in))]
 pub fn of_card(card: &[u8]) -> State
     ensures { result ≡ state card.now }
 {
-    let layout = walk::head::read_head(card);
-    let Layout::Sound(head) = layout else {
-        return no_state(1);
-    };
-    let begin = walk::head::beginning(card);
-    let area = survey::survey(card, head);
-    state_of(head, begin, area)
+    match walk::head::read(card) {
+        Ok(card) => state_of(&card, survey::survey(&card)),
+        Err(refusal) => no_state(refusal),
+    }
 }

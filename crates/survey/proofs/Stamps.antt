@@ -93,10 +93,10 @@ span card from k to e = ap (top_stamp card from) (let z : to - from ≡ k = omeg
 
 -- a stamp r that is there, and the largest T, which it is unless it is enough
 pub enough-is : (enough T r : ℕ) → r ≤ T → (r < enough → T ≤ r) → T ≤ enough → r ≡ T
-enough-is enough T r some else most = ⊎_elim (λ (le : enough ≤ r). omega arith) (λ (lt : r < enough). omega (arith, else lt)) (le-or-lt enough r)
+enough-is enough T r Some else most = ⊎_elim (λ (le : enough ≤ r). omega arith) (λ (lt : r < enough). omega (arith, else lt)) (le-or-lt enough r)
 
 pub enough-late : (enough T r : ℕ) → r ≤ T → (r < enough → T ≤ r) → leb enough r ≡ leb enough T
-enough-late enough T r some else =
+enough-late enough T r Some else =
     ⊎_elim (λ (le : enough ≤ r). le-leb enough r le ∙ sym (le-leb enough T (omega arith)))
     (λ (lt : r < enough). ap (leb enough) (let z : r ≡ T = omega (arith, else lt) in z)) (le-or-lt enough r)
 
@@ -197,7 +197,7 @@ behind-all h card sh =
     rw none_left
 
 -- from behind: a bucket of zeros is passed by, the first other one is the highest
-module _ (h : Head) (card : List ℕ) (b : ℕ) (sh : Shape h card) (some : 0 < b) (le : b ≤ h.n) where
+module _ (h : Head) (card : List ℕ) (b : ℕ) (sh : Shape h card) (Some : 0 < b) (le : b ≤ h.n) where
   turn : b - 1 + 1 ≡ b
   turn = omega arith
 

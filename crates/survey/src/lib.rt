@@ -1,44 +1,19 @@
 // The bucket area looked through: the stamps in it, and the highest bucket with a nonzero byte.
 #![tactic(auto)]
 
-ghost use Rattle.std.specs.Prelude.{◌≡◌, true, false, ◌+◌, ◌-◌, ◌*◌, ◌≤◌, ◌<◌, max, length, drop, leb};
-ghost use Rattle.rules.specs.Plain.{◌or◌, zeros};
+ghost use Rattle.std.specs.Prelude.{◌≡◌, true, false, ◌+◌, ◌-◌, ◌*◌, ◌≤◌, ◌<◌, length, drop, leb, MatchResult};
+ghost use Rattle.rules.specs.Plain.{zeros};
 ghost use Rattle.rules.specs.Write.{stamp_of, top_stamp, top_used, stamp_on};
-ghost use Rattle.bucket.specs.Shapes.{Shape};
 ghost use Rattle.survey.specs.Survey.{survey_of};
 
-use rules::Head;
+use bucket::Card;
+use rules::Refusal;
 
 // What the whole card holds: its largest stamp, and the highest bucket with a nonzero byte.
 #[derive(Clone, Copy)]
 pub struct Area {
     pub stamp: u32,
     pub used: usize,
-}
-
-// The same for a write, which asks of the stamps only whether its own comes too late.
-#[derive(Clone, Copy)]
-pub struct AreaFor {
-    pub late: bool,
-    pub used: usize,
-}
-
-fn later(a: u32, b: u32) -> u32
-    ensures { result ≡ max a b }
-{
-    if a < b {
-        return b;
-    }
-    a
-}
-
-fn either(a: bool, b: bool) -> bool
-    ensures { result ≡ (a or b) }
-{
-    if a {
-        return true;
-    }
-    b
 }
 
 // Whether a stamp field of the card's sectors from..to is above `before`, whatever the kinds are: if none is, no stamp is.
@@ -48,11 +23,8 @@ fn passed(card: &[u8], from: usize, to: usize, before: u32) -> bool
     ensures { result ≡ false → top_stamp card.now from (to - from) ≤ before }
 {
     let mut over = false;
-    let mut i = from;
-    while i < to {
-        let s = sector::read_word(sector::bytes(card, i), 8);
-        over = either(over, before < s);
-        i += 1;
+    for i in from..to {
+        over |= before < sector::read_word(sector::bytes(card, i), 8);
     }
     over
 }
@@ -62,19 +34,16 @@ fn bound(card: &[u8], from: usize, to: usize) -> u32
     requires { (from ≤ to) × (16 * to ≤ length card.now) }
     ensures { top_stamp card.now from (to - from) ≤ result }
 {
-    let mut top: u32 = 0;
-    let mut i = from;
-    while i < to {
-        let s = sector::read_word(sector::bytes(card, i), 8);
-        top = later(top, s);
-        i += 1;
+    let mut top = 0;
+    for i in from..to {
+        top = sector::read_word(sector::bytes(card, i), 8).max(top);
     }
     top
 }
 
 // The stamp field of a sector, where its kind is not zero.
-fn stamp_of(s: &[u8]) -> u32
-    requires { length s.now ≡ 16 }
+#[tactic(auto, unfolding(rules::specs::Write::stamp_of))]
+fn stamp_of(s: &[u8; 16]) -> u32
     ensures { result ≡ stamp_of s.now }
 {
     if s[0] == 0 {
@@ -89,11 +58,9 @@ fn top_stamp(card: &[u8], from: usize, to: usize, enough: u32) -> u32
     requires { (from ≤ to) × (16 * to ≤ length card.now) }
     ensures { (result ≤ top_stamp card.now from (to - from)) × (result < enough → top_stamp card.now from (to - from) ≤ result) }
 {
-    let mut top: u32 = 0;
-    let mut i = to;
-    while from < i {
-        i -= 1;
-        top = later(top, stamp_of(sector::bytes(card, i)));
+    let mut top = 0;
+    for i in (from..to).rev() {
+        top = stamp_of(sector::bytes(card, i)).max(top);
         let seen = enough <= top;
         if seen {
             return top;
@@ -102,17 +69,16 @@ fn top_stamp(card: &[u8], from: usize, to: usize, enough: u32) -> u32
     top
 }
 
-// A number of buckets which on a card we wrote are the written ones: behind them a first byte is zero. It decides nothing.
-fn guess(card: &[u8], head: Head) -> usize
-    requires { Shape head card.now }
-    ensures { result ≤ head.n }
+// A number of buckets which on a card we wrote are the written ones: behind them a first byte is zero. It decides nothing. Halved by hand:
+// the library's `partition_point` is for the elements of a slice, and a bucket is a part of one.
+fn guess(card: &Card) -> usize
+    ensures { result ≤ card.now.head.n }
 {
     let mut low = 0;
-    let mut high = head.n;
+    let mut high = card.head.n;
     while low < high {
         let mid = (low + high) / 2;
-        let rest = bucket::from_bucket(card, head, mid as u32 + 1);
-        if rest[0] == 0 {
+        if card.from_bucket(mid as u32 + 1)[0] == 0 {
             high = mid;
         } else {
             low = mid + 1;
@@ -122,16 +88,14 @@ fn guess(card: &[u8], head: Head) -> usize
 }
 
 // So many buckets that no byte behind them is nonzero: where the guess is not right they are all.
-fn written(card: &[u8], head: Head) -> usize
-    requires { Shape head card.now }
-    ensures upper_bound { (result ≤ head.n) × (survey_of head card.now head.n ≡ survey_of head card.now result) }
-    ensures card_value { zeros (drop (16 * (1 + head.n + result * head.m)) card.now) ≡ true }
+fn written(card: &Card) -> usize
+    ensures upper_bound { (result ≤ card.now.head.n) × (survey_of card.now.head card.now.bytes.now card.now.head.n ≡ survey_of card.now.head card.now.bytes.now result) }
+    ensures card_value { zeros (drop (16 * (1 + card.now.head.n + result * card.now.head.m)) card.now.bytes.now) ≡ true }
 {
-    let n = head.n;
-    let b = guess(card, head);
+    let n = card.head.n;
+    let b = guess(card);
     if b < n {
-        let rest = bucket::from_bucket(card, head, b as u32 + 1);
-        if sector::all_zero(rest) {
+        if sector::all_zero(card.from_bucket(b as u32 + 1)) {
             return b;
         }
         return n;
@@ -139,13 +103,19 @@ fn written(card: &[u8], head: Head) -> usize
     n
 }
 
-// The number of the sector behind the last bucket that need be read: every byte from it on is zero.
-pub fn end(card: &[u8], head: Head) -> usize
-    requires { Shape head card.now }
-    ensures { (1 + head.n ≤ result) × (16 * result ≤ length card.now) × (zeros (drop (16 * result) card.now) ≡ true) }
+// The number of the sector behind the first `last` buckets.
+fn behind(card: &Card, last: usize) -> usize
+    requires { last ≤ card.now.head.n }
+    ensures { (result ≡ 1 + card.now.head.n + last * card.now.head.m) × (16 * result ≤ length card.now.bytes.now) }
 {
-    let last = written(card, head);
-    behind(card, head, last)
+    1 + card.head.n + last * card.head.m
+}
+
+// The number of the sector behind the last bucket that need be read: every byte from it on is zero.
+pub fn end(card: &Card) -> usize
+    ensures { (1 + card.now.head.n ≤ result) × (16 * result ≤ length card.now.bytes.now) × (zeros (drop (16 * result) card.now.bytes.now) ≡ true) }
+{
+    behind(card, written(card))
 }
 
 // Whether every byte of a bucket is zero. A written one mostly shows by its first byte that it was written.
@@ -153,82 +123,68 @@ fn blank(part: &[u8]) -> bool
     requires { 1 ≤ length part.now }
     ensures { result ≡ zeros part.now }
 {
-    if part[0] == 0 {
-        return sector::all_zero(part);
-    }
-    false
+    part[0] == 0 && sector::all_zero(part)
 }
 
 // The highest of the first `last` buckets that has a nonzero byte.
-fn highest(card: &[u8], head: Head, last: usize) -> usize
-    requires { Shape head card.now × (last ≤ head.n) }
-    ensures { result ≡ top_used head card.now last }
+fn highest(card: &Card, last: usize) -> usize
+    requires { last ≤ card.now.head.n }
+    ensures { result ≡ top_used card.now.head card.now.bytes.now last }
 {
-    let mut b = last;
-    while 0 < b {
-        let part = bucket::bucket_part(card, head, b as u32);
-        if blank(part) {
-            b -= 1;
-        } else {
+    for below in (0..last).rev() {
+        let b = below + 1;
+        if !blank(card.bucket(b as u32)) {
             return b;
         }
     }
     0
 }
 
-// The number of the sector behind the first `last` buckets.
-fn behind(card: &[u8], head: Head, last: usize) -> usize
-    requires { Shape head card.now × (last ≤ head.n) }
-    ensures { (result ≡ 1 + head.n + last * head.m) × (16 * result ≤ length card.now) }
-{
-    1 + head.n + last * head.m
-}
-
 // The largest stamp of the first `last` buckets. The kinds are asked only until a stamp is as large as the largest field.
-fn largest(card: &[u8], head: Head, last: usize) -> u32
-    requires { Shape head card.now × (last ≤ head.n) }
-    ensures { result ≡ top_stamp card.now (1 + head.n) (last * head.m) }
+fn largest(card: &Card, last: usize) -> u32
+    requires { last ≤ card.now.head.n }
+    ensures { result ≡ top_stamp card.now.bytes.now (1 + card.now.head.n) (last * card.now.head.m) }
 {
-    let from = 1 + head.n;
-    let to = behind(card, head, last);
-    let most = bound(card, from, to);
-    top_stamp(card, from, to, most)
+    let from = 1 + card.head.n;
+    let to = behind(card, last);
+    let most = bound(card.bytes, from, to);
+    top_stamp(card.bytes, from, to, most)
 }
 
 // Whether a stamp of the first `last` buckets is `at` or later. Only where a stamp field is are the kinds asked.
-fn too_late(card: &[u8], head: Head, last: usize, at: u32) -> bool
-    requires { Shape head card.now × (last ≤ head.n) }
-    ensures { result ≡ leb at (top_stamp card.now (1 + head.n) (last * head.m)) }
+fn too_late(card: &Card, last: usize, at: u32) -> bool
+    requires { last ≤ card.now.head.n }
+    ensures { result ≡ leb at (top_stamp card.now.bytes.now (1 + card.now.head.n) (last * card.now.head.m)) }
 {
     if at == 0 {
         return true;
     }
-    let from = 1 + head.n;
-    let to = behind(card, head, last);
-    if passed(card, from, to, at - 1) {
-        return at <= top_stamp(card, from, to, at);
+    let from = 1 + card.head.n;
+    let to = behind(card, last);
+    if passed(card.bytes, from, to, at - 1) {
+        return at <= top_stamp(card.bytes, from, to, at);
     }
     false
 }
 
 // For who wants the largest stamp itself.
-pub fn survey(card: &[u8], head: Head) -> Area
-    requires { Shape head card.now }
-    ensures { (result.stamp ≡ stamp_on head card.now) × (result.used ≡ top_used head card.now head.n) }
+pub fn survey(card: &Card) -> Area
+    ensures { (result.stamp ≡ stamp_on card.now.head card.now.bytes.now) × (result.used ≡ top_used card.now.head card.now.bytes.now card.now.head.n) }
 {
-    let last = written(card, head);
-    let stamp = largest(card, head, last);
-    let used = highest(card, head, last);
-    Area { stamp, used }
+    let last = written(card);
+    Area {
+        stamp: largest(card, last),
+        used: highest(card, last),
+    }
 }
 
-// For a write stamped `at`.
-pub fn survey_for(card: &[u8], head: Head, at: u32) -> AreaFor
-    requires { Shape head card.now }
-    ensures { (result.late ≡ leb at (stamp_on head card.now)) × (result.used ≡ top_used head card.now head.n) }
+// For a write stamped `at`: the highest bucket used, unless the stamp comes too late. The card's stamps are asked for nothing else.
+pub fn survey_for(card: &Card, at: u32) -> Result<usize, Refusal>
+    ensures { MatchResult result (λ used. (leb at (stamp_on card.now.head card.now.bytes.now) ≡ false) × (used ≡ top_used card.now.head card.now.bytes.now card.now.head.n)) (λ r. (leb at (stamp_on card.now.head card.now.bytes.now) ≡ true) × (r ≡ Refusal.Stamp)) }
 {
-    let last = written(card, head);
-    let late = too_late(card, head, last, at);
-    let used = highest(card, head, last);
-    AreaFor { late, used }
+    let last = written(card);
+    if too_late(card, last, at) {
+        return Err(Refusal::Stamp);
+    }
+    Ok(highest(card, last))
 }

@@ -1,102 +1,81 @@
 // The walk of a write: as of the latest stamp, with the buckets it met written down, the lowest level first.
 #![tactic(auto)]
 
-ghost use Rattle.std.specs.Prelude.{◌≡◌, ◌≤◌, false, [], length};
+ghost use Rattle.std.specs.Prelude.{◌≡◌, ◌≤◌, [], length};
 ghost use Rattle.laws.proofs.Roots.{root_now};
-ghost use Rattle.bucket.specs.Shapes.{Shape};
 ghost use Rattle.trail.specs.Trail.{Went, track_scan, track_from};
+ghost use Rattle.trail.specs.declared.Astray.TheVariants as Ways;
 
-use rules::Head;
-use scan::{Found, Way};
+use bucket::Card;
+use rules::{Damage, Entry};
+use scan::Way;
 
-// Where the walk's buckets begin in the lent path, and what the data bucket says of the key; or that the path has too few places.
+// Where the walk's buckets begin in the lent path, and the last copy of the key in the data bucket.
 #[derive(Clone, Copy)]
 pub struct Trail {
     pub start: usize,
-    pub found: Found,
-    pub deep: bool,
+    pub copy: Option<Entry>,
 }
 
-// No bucket of a path of so many places.
-fn lost(places: usize) -> Trail
-    ensures { result ≡ record { start = places; found = Found.Damage; deep = false } }
-{
-    Trail {
-        start: places,
-        found: Found::Damage,
-        deep: false,
+// Why a walk came to no data bucket: the card is damaged, or the path has fewer places than the walk has buckets.
+#[derive(Clone, Copy, Debug, PartialEq, Eq)]
+pub enum Astray {
+    Damaged,
+    Deep,
+}
+
+impl From<Damage> for Astray {
+    ghost from_gives = { λ _ a. a ≡ Ways.Damaged };
+
+    fn from(_: Damage) -> Astray {
+        Astray::Damaged
     }
 }
 
 // From the root down. The path is filled from its end, so that the bucket met last comes first.
-fn descend(card: &[u8], head: Head, root: u32, key: u32, path: &mut [u32]) -> Trail
-    requires { Shape head card.now × (1 ≤ root) × (root ≤ head.n) }
-    ensures { Went result (length path.old) head.n path.new (track_scan head card.now key head.n [] root 0) }
+fn descend(card: &Card, root: u32, key: u32, path: &mut [u32]) -> Result<Trail, Astray>
+    requires { (1 ≤ root) × (root ≤ card.now.head.n) }
+    ensures { Went result (length path.old) card.now.head.n path.new (track_scan card.now.head card.now.bytes.now key card.now.head.n [] root 0) }
 {
-    let n = head.n;
     let places = path.len();
     let mut b = root;
-    let mut header: u32 = 0;
-    let mut reads: usize = 0;
-    loop {
-        if reads == n {
-            return lost(places);
+    let mut header = 0;
+    for above in 0..card.head.n {
+        if above == places {
+            return Err(Astray::Deep);
         }
-        if reads == places {
-            return Trail {
-                start: places,
-                found: Found::Damage,
-                deep: true,
-            };
-        }
-        let way = bucket::search(card, head, b, header, key, 4294967295);
-        reads += 1;
+        let reads = above + 1;
         let start = places - reads;
         path[start] = b;
-        match way {
-            Way::Lost => return lost(places),
+        match card.search(b, header, key, u32::MAX)? {
             Way::Down(e) => {
                 b = e.value;
                 header = e.key;
             }
-            Way::Absent => {
-                return Trail {
-                    start,
-                    found: Found::Nothing,
-                    deep: false,
-                };
-            }
-            Way::Copy(e) => {
-                return Trail {
-                    start,
-                    found: Found::Hit(e),
-                    deep: false,
-                };
-            }
+            Way::End(copy) => return Ok(Trail { start, copy }),
         }
     }
+    Err(Astray::Damaged)
 }
 
-// The bucket of the log's last root entry; 0 where the log is damaged, which it judges as a whole.
-pub fn root_of(card: &[u8], head: Head) -> u32
-    requires { Shape head card.now }
-    ensures { result ≡ root_now head card.now }
+// The bucket of the log's last root entry; 0, which is no bucket, where the log is damaged, which it judges as a whole. A number and no
+// Option: it is carried from write to write, and a walk from bucket 0 is damage by the rule as any other that leads nowhere.
+pub fn root_of(card: &Card) -> u32
+    ensures { result ≡ root_now card.now.head card.now.bytes.now }
 {
-    let found = bucket::find_root(card, head, 4294967295);
-    let Found::Hit(root) = found else {
-        return 0;
-    };
-    root.value
+    match card.root_at(u32::MAX) {
+        Ok(root) => root.value,
+        Err(Damage) => 0,
+    }
 }
 
 // The walk to a key. The root is given, so that who walks more than once has the log judged once.
-pub fn walk_down(card: &[u8], head: Head, root: u32, key: u32, path: &mut [u32]) -> Trail
-    requires { Shape head card.now × (root ≡ root_now head card.now) }
-    ensures { Went result (length path.old) head.n path.new (track_from head card.now key root) }
+pub fn walk_down(card: &Card, root: u32, key: u32, path: &mut [u32]) -> Result<Trail, Astray>
+    requires { root ≡ root_now card.now.head card.now.bytes.now }
+    ensures { Went result (length path.old) card.now.head.n path.new (track_from card.now.head card.now.bytes.now key root) }
 {
-    let places = path.len();
     if root == 0 {
-        return lost(places);
+        return Err(Astray::Damaged);
     }
-    descend(card, head, root, key, path)
+    descend(card, root, key, path)
 }

@@ -1,6 +1,6 @@
 -- What is added with a later stamp is not seen as of an earlier one.
 use mathlib.Core.Path.{◌≡◌, ap, refl, subst, sym}
-use mathlib.Core.Option.{Option, none, some}
+use Rattle.std.specs.Prelude.{Option, None, Some}
 use Prim.Native.Nat.{◌<◌, suc, zero, ℕ, ◌≤◌}
 use native.Mathlib.Omega.{arith}
 use mathlib.Core.List.{List, [], ◌++◌, ◌∷◌}
@@ -31,7 +31,7 @@ turn-late t s x k h es new lt late = rw (left-late t s (h ∷ es) new lt late)
 
 -- every bucket that can be read stays so, and gets entries stamped s or later at its end
 abbrev pub Grows : ℕ → (ℕ → Option (List Entry)) → (ℕ → Option (List Entry)) → Type 0
-Grows s rd rd' = (b : ℕ) (es : List Entry) → rd b ≡ some es → (new : List Entry) × (rd' b ≡ some (es ++ new)) × Late s new
+Grows s rd rd' = (b : ℕ) (es : List Entry) → rd b ≡ Some es → (new : List Entry) × (rd' b ≡ Some (es ++ new)) × Late s new
 
 abbrev pub Alike : ℕ → List Visit → List Visit → Type 0
 Alike t [] [] = Unit {0}
@@ -41,12 +41,12 @@ Alike t (v ∷ p) (w ∷ q) = (v.number ≡ w.number) × (left t v.entries ≡ l
 
 -- a path of the first readings is one of the second
 abbrev pub Again : ℕ → Option (List Visit) → List Visit → Type 0
-Again t r p = (q : List Visit) × (r ≡ some q) × Alike t p q
+Again t r p = (q : List Visit) × (r ≡ Some q) × Alike t p q
 
 go-late : (t : ℕ) (v w : Visit) (u : Turn) (on on' : ℕ → ℕ → Option (List Visit)) (p : List Visit)
     → v.number ≡ w.number → left t v.entries ≡ left t w.entries
-    → ((b k : ℕ) (q : List Visit) → on b k ≡ some q → Again t (on' b k) q)
-    → go v u on ≡ some p → Again t (go w u on') p
+    → ((b k : ℕ) (q : List Visit) → on b k ≡ Some q → Again t (on' b k) q)
+    → go v u on ≡ Some p → Again t (go w u on') p
 unfolding go met
 go-late t v w broken on on' p en el ih e = absurd (none-some e)
 go-late t v w arrived on on' p en el ih e =
@@ -58,20 +58,20 @@ go-late t v w (down d) on on' p en el ih e =
     (w ∷ b.0, ap (met w) b.1, subst (λ z. Alike t z (w ∷ b.0)) (sym a.2) (en, el, b.2))
 
 in-late : (t s x b k : ℕ) (rd' : Option (List Entry)) (r : Option (List Entry)) (on on' : ℕ → ℕ → Option (List Visit)) (p : List Visit)
-    → t < s → ((es : List Entry) → r ≡ some es → (new : List Entry) × (rd' ≡ some (es ++ new)) × Late s new)
-    → ((b k : ℕ) (q : List Visit) → on b k ≡ some q → Again t (on' b k) q)
-    → go_in t x b k r on ≡ some p → Again t (go_in t x b k rd' on') p
+    → t < s → ((es : List Entry) → r ≡ Some es → (new : List Entry) × (rd' ≡ Some (es ++ new)) × Late s new)
+    → ((b k : ℕ) (q : List Visit) → on b k ≡ Some q → Again t (on' b k) q)
+    → go_in t x b k r on ≡ Some p → Again t (go_in t x b k rd' on') p
 unfolding go_in turn go
-in-late t s x b k rd' none on on' p lt gr ih e = absurd (none-some e)
-in-late t s x b k rd' (some []) on on' p lt gr ih e = absurd (none-some e)
-in-late t s x b k rd' (some (h ∷ es)) on on' p lt gr ih e =
+in-late t s x b k rd' None on on' p lt gr ih e = absurd (none-some e)
+in-late t s x b k rd' (Some []) on on' p lt gr ih e = absurd (none-some e)
+in-late t s x b k rd' (Some (h ∷ es)) on on' p lt gr ih e =
     let g = gr (h ∷ es) refl in
     let l = sym (left-late t s (h ∷ es) g.0 lt g.2) in
     rw (g.1, turn-late t s x k h es g.0 lt g.2)
     (go-late t (record { number = b; entries = h ∷ es }) (record { number = b; entries = h ∷ (es ++ g.0) }) (turn t x k (h ∷ es)) on on' p refl l ih e)
 
 pub path-late : (t s x : ℕ) (rd rd' : ℕ → Option (List Entry)) → t < s → Grows s rd rd'
-    → (f b k : ℕ) (p : List Visit) → path rd t x f b k ≡ some p → Again t (path rd' t x f b k) p
+    → (f b k : ℕ) (p : List Visit) → path rd t x f b k ≡ Some p → Again t (path rd' t x f b k) p
 unfolding path
 path-late t s x rd rd' lt gr zero b k p e = absurd (none-some e)
 path-late t s x rd rd' lt gr (suc f) b k p e =

@@ -6,7 +6,7 @@ use lib.ListN.{length}
 use mathlib.Core.Bool.{false, true, not}
 use mathlib.Core.List.{List, [], ◌∷◌, ◌++◌}
 use mathlib.Core.Logic.{⊎_elim}
-use mathlib.Core.Option.{none, some, Option}
+use Rattle.std.specs.Prelude.{None, Some, Option}
 use mathlib.Core.Path.{◌∙◌, ◌≡◌, ap, ap₂, refl, subst, sym}
 use native.Mathlib.Nat.{mul-le-mul_left}
 use native.Mathlib.Omega.{arith}
@@ -46,11 +46,11 @@ idx = index_entry 0 0 2
 
 -- nothing stands
 abbrev pub nothing : ℕ → Option Entry
-nothing x = none
+nothing x = None
 
-dummy-none : (x : ℕ) → standing (copy_of x (dummy ∷ [])) ≡ none
+dummy-none : (x : ℕ) → standing (copy_of x (dummy ∷ [])) ≡ None
 unfolding standing copy_of only last_of is_post
-dummy-none x = elim (eqb 0 x) as (λ b. standing (last_of (keep_if b dummy [])) ≡ none) [ true ↦ refl | false ↦ refl ]
+dummy-none x = elim (eqb 0 x) as (λ b. standing (last_of (keep_if b dummy [])) ≡ None) [ true ↦ refl | false ↦ refl ]
 
 -- a head's bytes are bytes
 pub bytes-head : (h : Head) (begin : ℕ) → h.n ≤ 4096 → h.m ≤ 32 → h.td ≤ h.m → h.ti ≤ h.m → begin < 4294967296 → Bytes (head_bytes h begin)
@@ -71,7 +71,7 @@ bytes-head h begin n4096 m32 tdm tim small = (
 )
 
 module _ (h : Head) (lim : limits h ≡ true) (card : List ℕ) (size : size_of h ≡ length card) (bytes0 : Bytes card)
-    (front0 : (j : ℕ) → j < 1 + h.n → zeros (sector_at card j) ≡ true) (blank0 : (c : ℕ) → 1 ≤ c → c ≤ h.n → raw h card c ≡ some [])
+    (front0 : (j : ℕ) → j < 1 + h.n → zeros (sector_at card j) ≡ true) (blank0 : (c : ℕ) → 1 ≤ c → c ≤ h.n → raw h card c ≡ Some [])
     (stamps0 : (j : ℕ) → 1 + h.n ≤ j → stamp_of (sector_at card j) ≡ 0) (room1 : 1 ≤ length (blanks_of h card 1)) (room2 : 1 ≤ length (blanks_of h card 2))
     (n2 : 2 ≤ h.n) (n4096 : h.n ≤ 4096) (m4 : 4 ≤ h.m) (m32 : h.m ≤ 32) (tdm : h.td ≤ h.m) (tim : h.ti ≤ h.m) where
   abbrev card1 : List ℕ
@@ -106,11 +106,11 @@ module _ (h : Head) (lim : limits h ≡ true) (card : List ℕ) (size : size_of 
   same2 : (j : ℕ) → 2 ≤ j → sector_at card2 j ≡ sector_at card j
   same2 j lo = sector-put-other card1 1 j (encode root) (length-encode root) (omega (arith, big, len1)) (λ z. omega arith) ∙ same1 j (omega arith)
 
-  blank2 : (c : ℕ) → 1 ≤ c → c ≤ h.n → raw h card2 c ≡ some []
+  blank2 : (c : ℕ) → 1 ≤ c → c ≤ h.n → raw h card2 c ≡ Some []
   unfolding base
   blank2 c p q = run_agree h.n card2 card (base h c) h.m (λ j a b. same2 j (omega arith)) ∙ blank0 c p q
 
-  past : (c : ℕ) → h.n < c → raw h card2 c ≡ some []
+  past : (c : ℕ) → h.n < c → raw h card2 c ≡ Some []
   unfolding base
   past c gt = run_past h.n card2 (base h c) h.m (let k : h.n ≤ c - 1 = omega arith in omega (arith, big, len2, mul-le-mul_left h.m k))
 
@@ -126,22 +126,22 @@ module _ (h : Head) (lim : limits h ≡ true) (card : List ℕ) (size : size_of 
   unfolding blanks_of base
   rooms2 c = blanks-agree card2 card (base h c) h.m (λ j a b. same2 j (omega arith))
 
-  log2 : log h card2 ≡ some (root ∷ [])
+  log2 : log h card2 ≡ Some (root ∷ [])
   unfolding log sound_log every is_root run onto
   log2 = log-one h.n refl
     where
-      rest : (c : ℕ) → c + 2 ≤ 1 + h.n → run h.n card2 2 c ≡ some []
+      rest : (c : ℕ) → c + 2 ≤ 1 + h.n → run h.n card2 2 c ≡ Some []
       rest c le = run-blank h.n card2 2 c (λ j p q. ap zeros (same2 j p) ∙ front0 j (omega arith))
 
-      log-one : (n : ℕ) → h.n ≡ n → and_then (run h.n card2 1 n) sound_log ≡ some (root ∷ [])
+      log-one : (n : ℕ) → h.n ≡ n → and_then (run h.n card2 1 n) sound_log ≡ Some (root ∷ [])
       log-one zero e = absurd (omega arith)
       log-one (suc c) e = rw (decode-put h.n card1 root fine-root.1 1 1 refl (omega (arith, big, len1)), rest c (omega arith))
 
-  sound-idx : sound_bucket (idx ∷ []) ≡ some (idx ∷ [])
+  sound-idx : sound_bucket (idx ∷ []) ≡ Some (idx ∷ [])
   unfolding sound_bucket every joins is_index
   sound-idx = refl
 
-  sound-dummy : sound_bucket (dummy ∷ []) ≡ some (dummy ∷ [])
+  sound-dummy : sound_bucket (dummy ∷ []) ≡ Some (dummy ∷ [])
   unfolding sound_bucket every joins is_index is_data
   sound-dummy = refl
 
@@ -172,7 +172,7 @@ module _ (h : Head) (lim : limits h ≡ true) (card : List ℕ) (size : size_of 
   unfolding beginning
   begins4 = ap (λ (s : List ℕ). word s 8) first4 ∙ head-begins h 0
 
-  head4 : head_of card4 ≡ some h
+  head4 : head_of card4 ≡ Some h
   unfolding head_of
   head4 =
       ap₂ head_in first4 (sym fb2.ready.size)
@@ -247,7 +247,7 @@ format-keeps card n m td ti new q =
     let l = limits-hold h i.0 in
     let m4 = l.m4 in
     let n2 = l.n2 in
-    let blank : (c : ℕ) → 1 ≤ c → c ≤ h.n → raw h card c ≡ some [] = λ c p q. run-blank h.n card (base h c) h.m (λ j x y. zero-sector card j i.2) in
+    let blank : (c : ℕ) → 1 ≤ c → c ≤ h.n → raw h card c ≡ Some [] = λ c p q. run-blank h.n card (base h c) h.m (λ j x y. zero-sector card j i.2) in
     let room : (c : ℕ) → 1 ≤ c → c ≤ h.n → length (blanks_of h card c) ≡ h.m = λ c p q. blank-room h.n card (base h c) h.m (blank c p q) in
     let r1 = room 1 (omega arith) (omega arith) in
     let r2 = room 2 (omega arith) (omega arith) in

@@ -2,7 +2,7 @@
 use mathlib.Core.Path.{◌∙◌, ◌≡◌, ap, ap₂, refl, subst, sym}
 use mathlib.Core.Logic.{◌⊎◌, inl, inr, ⊎_elim}
 use mathlib.Core.Bool.{Bool, false, true}
-use mathlib.Core.Option.{Option, some}
+use Rattle.std.specs.Prelude.{Option, Some}
 use Prim.Native.Nat.{◌+◌, ◌<◌, ◌≤◌, suc, zero, ℕ}
 use native.Mathlib.Omega.{arith}
 use mathlib.Core.List.{List, [], ◌++◌, ◌∷◌, append_assoc}
@@ -32,15 +32,15 @@ use Rattle.tree.proofs.Ready.{Ready}
 
 -- g with the entry e
 abbrev pub upd : (ℕ → Option Entry) → Entry → ℕ → Option Entry
-upd g e x = if (eqb e.key x) (standing (some e)) (g x)
+upd g e x = if (eqb e.key x) (standing (Some e)) (g x)
 
 -- the walk's steps in a tree
-path-data : (rd : Reading) (g : ℕ → Option Entry) (t b lo hi x f : ℕ) (tr : Tree rd g zero b lo hi) → path rd t x (suc f) b lo ≡ some (record { number = b; entries = tr.0 } ∷ [])
+path-data : (rd : Reading) (g : ℕ → Option Entry) (t b lo hi x f : ℕ) (tr : Tree rd g zero b lo hi) → path rd t x (suc f) b lo ≡ Some (record { number = b; entries = tr.0 } ∷ [])
 unfolding path go_in go
 path-data rd g t b lo hi x f tr = rw (tr.1, turn-data t x lo hi tr.0 tr.2)
 
 path-index : (rd : Reading) (g : ℕ → Option Entry) (t : ℕ) → Early t rd → (k b lo hi x f : ℕ) (tr : Tree rd g (suc k) b lo hi) (d : Entry)
-    → follow x tr.0 ≡ some d
+    → follow x tr.0 ≡ Some d
     → path rd t x (suc f) b lo ≡ met (record { number = b; entries = tr.0 }) (path rd t x f d.value d.key)
 unfolding path go_in go down_to
 path-index rd g t early k b lo hi x f tr d q = rw (tr.1, turn-index t x lo hi tr.0 tr.2, early b tr.0 tr.1, q)
@@ -51,7 +51,7 @@ unfolding only
 only-cong p q [] a = refl
 only-cong p q (e ∷ es) a = ap₂ (λ b r. keep_if b e r) a.0 (only-cong p q es a.1)
 
-follow-at : (x : ℕ) (es : List Entry) (d : Entry) → follow x es ≡ some d → follow d.key es ≡ some d
+follow-at : (x : ℕ) (es : List Entry) (d : Entry) → follow x es ≡ Some d → follow d.key es ≡ Some d
 unfolding follow
 follow-at x es d q =
     let le = follow-le x es d q in
@@ -63,9 +63,9 @@ follow-at x es d q =
     (le-or-lt e.key x))
     es (follow-gap x es d q))) ∙ q
 
-follow_one : (x y : ℕ) (es : List Entry) (c d : Entry) → follow x es ≡ some c → follow y es ≡ some d → c.key ≡ d.key → c ≡ d
+follow_one : (x y : ℕ) (es : List Entry) (c d : Entry) → follow x es ≡ Some c → follow y es ≡ Some d → c.key ≡ d.key → c ≡ d
 follow_one x y es c d p q k =
-    let e : some c ≡ some d = sym (follow-at x es c p) ∙ ap (λ z. follow z es) k ∙ follow-at y es d q in
+    let e : Some c ≡ Some d = sym (follow-at x es c p) ∙ ap (λ z. follow z es) k ∙ follow-at y es d q in
     cc
 
 -- the new entry in a data bucket
@@ -83,7 +83,7 @@ start card e f = record { hand = e ∷ []; fresh = f; card = card }
 
 abbrev pub Climbs : (h : Head) (card : List ℕ) (g : ℕ → Option Entry) (e : Entry) (f0 t : ℕ) (k b lo hi f : ℕ) → Type 0
 Climbs h card g e f0 t k b lo hi f =
-    (p : List Visit) × (path (bucket h card) t e.key f b lo ≡ some p)
+    (p : List Visit) × (path (bucket h card) t e.key f b lo ≡ Some p)
     × ((climb h e.stamp p (start card e f0)).fresh ≤ h.n + 1 → Outcome h card g (upd g e) k b lo hi e.stamp (climb h e.stamp p (start card e f0)))
 
 module _ (h : Head) (lim : Lim h) (card : List ℕ) (g : ℕ → Option Entry) (t : ℕ) (early : Early t (bucket h card))
@@ -127,7 +127,7 @@ module _ (h : Head) (lim : Lim h) (card : List ℕ) (g : ℕ → Option Entry) (
     abbrev u : ℕ
     u = upper e.key es hi
 
-    sd : follow e.key es ≡ some d
+    sd : follow e.key es ≡ Some d
     sd = (tr.3 e.key le lh).1
 
     outside : (x : ℕ) → (x < d.key) ⊎ (u ≤ x) → g x ≡ upd g e x
@@ -165,7 +165,7 @@ module _ (h : Head) (lim : Lim h) (card : List ℕ) (g : ℕ → Option Entry) (
                 (λ eq.
                 let ce : cx.0 ≡ d = follow_one x e.key es cx.0 d cx.1 sd eq in
                 let su : upper x es hi ≡ u = same-upper (bucket h card) g (upd g e) k lo hi es tr.3 e.key d sd outside x lx xh eq in
-                (d, cx.1 ∙ ap some ce, rw su c.tree))
+                (d, cx.1 ∙ ap Some ce, rw su c.tree))
                 (λ ne.
                 let aw = away (bucket h card) g (upd g e) k lo hi es tr.3 e.key d sd outside x lx xh ne in
                 let at = away-tree (bucket h card) g (upd g e) k lo hi es tr.3 e.key d sd outside x lx xh ne in

@@ -2,7 +2,7 @@
 use mathlib.Core.Path.{◌∙◌, ◌≡◌, ap, refl, subst, sym}
 use mathlib.Core.Logic.{inr}
 use mathlib.Core.Bool.{Bool, false, not, true}
-use mathlib.Core.Option.{Option, some}
+use Rattle.std.specs.Prelude.{Option, Some}
 use Prim.Native.Nat.{◌<◌, ◌≤◌, suc, zero, ℕ}
 use native.Mathlib.Omega.{arith}
 use mathlib.Core.List.{List, [], ◌++◌, ◌∷◌}
@@ -29,12 +29,12 @@ Content rd g zero es lo hi = (x : ℕ) → lo ≤ x → x < hi → standing (cop
 Content rd g (suc k) es lo hi = Kids rd g k es lo hi
 
 pub tree-make : (rd : Reading) (g : ℕ → Option Entry) (k b lo hi : ℕ) (es : List Entry)
-    → rd b ≡ some es → Shape (is_idx k) lo hi es → Content rd g k es lo hi → Tree rd g k b lo hi
+    → rd b ≡ Some es → Shape (is_idx k) lo hi es → Content rd g k es lo hi → Tree rd g k b lo hi
 tree-make rd g zero b lo hi es r s c = (es, r, s, c)
 tree-make rd g (suc k) b lo hi es r s c = (es, r, s, c)
 
 pub tree-parts : (rd : Reading) (g : ℕ → Option Entry) (k b lo hi : ℕ) → Tree rd g k b lo hi
-    → (es : List Entry) × (rd b ≡ some es) × Shape (is_idx k) lo hi es × Content rd g k es lo hi
+    → (es : List Entry) × (rd b ≡ Some es) × Shape (is_idx k) lo hi es × Content rd g k es lo hi
 tree-parts rd g zero b lo hi tr = tr
 tree-parts rd g (suc k) b lo hi tr = tr
 
@@ -95,7 +95,7 @@ content-high rd g (suc k) lo hi ls d bs s ld c = λ x p q.
     let df = (follow-gap x (d ∷ bs) f.0 f.1).0 p in
     let low = sorted-low ls d bs s in
     let w = follow-high x ls (d ∷ bs) f.0 f.1 (all_map (λ z. z.key < d.key) (λ z. z.key < f.0.key) (λ z l. omega arith) ls low) in
-    let fe : follow x (d ∷ bs) ≡ some e.0 = f.1 ∙ sym w ∙ e.1 in
+    let fe : follow x (d ∷ bs) ≡ Some e.0 = f.1 ∙ sym w ∙ e.1 in
     (e.0, fe, rw (upper-high x ls (d ∷ bs) hi (all_map (λ z. z.key < d.key) (λ z. z.key ≤ x) (λ z l. omega arith) ls low)) at e.2)
 
 -- a shape is sound
@@ -109,7 +109,7 @@ unfolding joins
 joins-span true lo hi h e ih hk s = rw ih (true-and s.0 (le-leb h.key e.key (let z = s.1 in omega arith)))
 joins-span false lo hi h e ih hk s = rw ih (true-and s.3 (le-leb h.key e.key (let z = s.1 in omega arith)))
 
-pub shape-sound : (i : Bool) (lo hi : ℕ) (es : List Entry) → Shape i lo hi es → sound_bucket es ≡ some es
+pub shape-sound : (i : Bool) (lo hi : ℕ) (es : List Entry) → Shape i lo hi es → sound_bucket es ≡ Some es
 unfolding sound_bucket
 shape-sound i lo hi [] s = absurd s.0
 shape-sound i lo hi (h ∷ es) s =
@@ -117,7 +117,7 @@ shape-sound i lo hi (h ∷ es) s =
 
 -- content in another reading
 pub content-frame : (rd rd' : Reading) (g g' : ℕ → Option Entry) (c k m top : ℕ) → Tree rd g' k c m top → m < top
-    → ((b : ℕ) (es : List Entry) → (b ≡ c → ⊥) → rd b ≡ some es → rd' b ≡ some es)
+    → ((b : ℕ) (es : List Entry) → (b ≡ c → ⊥) → rd b ≡ Some es → rd' b ≡ Some es)
     → (lo hi : ℕ) (es : List Entry) → Content rd g k es lo hi → Content rd' g k es lo hi
 content-frame rd rd' g g' c zero m top tc mt same lo hi es cn = cn
 content-frame rd rd' g g' c (suc k) m top tc mt same lo hi es cn = λ x p q.
@@ -126,7 +126,7 @@ content-frame rd rd' g g' c (suc k) m top tc mt same lo hi es cn = λ x p q.
     let u = upper-gt x es hi q in
     (e.0, e.1, tree-frame rd rd' g g' c (suc k) m top tc mt same k e.0.value e.0.key (upper x es hi) (omega arith) (inr (inr (omega arith))) e.2)
 
-pub content-fresh : (rd rd' : Reading) (g : ℕ → Option Entry) → ((b : ℕ) (es : List Entry) → rd b ≡ some es → rd' b ≡ some es)
+pub content-fresh : (rd rd' : Reading) (g : ℕ → Option Entry) → ((b : ℕ) (es : List Entry) → rd b ≡ Some es → rd' b ≡ Some es)
     → (k lo hi : ℕ) (es : List Entry) → Content rd g k es lo hi → Content rd' g k es lo hi
 content-fresh rd rd' g same zero lo hi es cn = cn
 content-fresh rd rd' g same (suc k) lo hi es cn = λ x p q.

@@ -6,7 +6,7 @@ use lib.ListN.{length}
 use mathlib.Core.Bool.{false, true}
 use mathlib.Core.List.{List, [], ◌++◌, ◌∷◌}
 use mathlib.Core.Logic.{◌⊎◌, inl, inr, ⊎_elim}
-use mathlib.Core.Option.{Option, none, some}
+use Rattle.std.specs.Prelude.{Option, None, Some}
 use mathlib.Core.Path.{◌∙◌, ◌≡◌, ap, refl, subst, sym}
 use native.Mathlib.Omega.{arith}
 use Rattle.rules.specs.declared.Entry.{Entry}
@@ -26,12 +26,12 @@ abbrev pub above : ℕ → List Entry → List Entry
 above x es = only (λ e. ltb x e.key) es
 
 -- the smallest of a list
-smaller-none : (d : Entry) → smaller d none ≡ some d
+smaller-none : (d : Entry) → smaller d None ≡ Some d
 unfolding smaller
 smaller-none d = refl
 
 abbrev pub Least : ℕ → List Entry → ℕ → ℕ → Type 0
-Least x es u hi = ((smallest (above x es) ≡ none) × (u ≡ hi)) ⊎ ((e : Entry) × (smallest (above x es) ≡ some e) × (e.key ≡ u) × (u < hi))
+Least x es u hi = ((smallest (above x es) ≡ None) × (u ≡ hi)) ⊎ ((e : Entry) × (smallest (above x es) ≡ Some e) × (e.key ≡ u) × (u < hi))
 
 small-upper : (x : ℕ) (es : List Entry) (hi : ℕ) → All (λ e. e.key < hi) es → Least x es (upper x es hi) hi
 unfolding only upper smallest
@@ -41,29 +41,29 @@ small-upper x (d ∷ es) hi a =
     (λ (le : d.key ≤ x). rw (le-ltb x d.key le) (small-upper x es hi a.1))
     (λ (gt : x < d.key). rw (lt-ltb x d.key gt)
     (⊎_elim
-    (λ (n : (smallest (above x es) ≡ none) × (upper x es hi ≡ hi)).
+    (λ (n : (smallest (above x es) ≡ None) × (upper x es hi ≡ hi)).
     let dh = a.0 in let un = n.1 in
     inr (d, ap (smaller d) n.0 ∙ smaller-none d, omega arith, omega arith))
-    (λ (s : (e : Entry) × (smallest (above x es) ≡ some e) × (e.key ≡ upper x es hi) × (upper x es hi < hi)).
+    (λ (s : (e : Entry) × (smallest (above x es) ≡ Some e) × (e.key ≡ upper x es hi) × (upper x es hi < hi)).
     let ek = s.2 in let eh = s.3 in let dh = a.0 in
     ⊎_elim
-    (λ (c : (smaller d (some s.0) ≡ some s.0) × (s.0.key ≤ d.key)). let c1 = c.1 in inr (s.0, ap (smaller d) s.1 ∙ c.0, omega arith, omega arith))
-    (λ (c : (smaller d (some s.0) ≡ some d) × (d.key < s.0.key)). let c1 = c.1 in inr (d, ap (smaller d) s.1 ∙ c.0, omega arith, omega arith))
+    (λ (c : (smaller d (Some s.0) ≡ Some s.0) × (s.0.key ≤ d.key)). let c1 = c.1 in inr (s.0, ap (smaller d) s.1 ∙ c.0, omega arith, omega arith))
+    (λ (c : (smaller d (Some s.0) ≡ Some d) × (d.key < s.0.key)). let c1 = c.1 in inr (d, ap (smaller d) s.1 ∙ c.0, omega arith, omega arith))
     (smaller-pick d s.0))
     (small-upper x es hi a.1)))
     (le-or-lt d.key x)
 
-small-append-none : (ls bs : List Entry) → smallest bs ≡ none → smallest (ls ++ bs) ≡ smallest ls
+small-append-none : (ls bs : List Entry) → smallest bs ≡ None → smallest (ls ++ bs) ≡ smallest ls
 unfolding smallest
 small-append-none [] bs q = q
 small-append-none (a ∷ ls) bs q = ap (smaller a) (small-append-none ls bs q)
 
-small-append-some : (ls bs : List Entry) (e : Entry) → smallest bs ≡ some e → All (λ a. e.key ≤ a.key) ls → smallest (ls ++ bs) ≡ some e
+small-append-some : (ls bs : List Entry) (e : Entry) → smallest bs ≡ Some e → All (λ a. e.key ≤ a.key) ls → smallest (ls ++ bs) ≡ Some e
 unfolding smallest smaller
 small-append-some [] bs e q a = q
 small-append-some (d ∷ ls) bs e q a = ap (smaller d) (small-append-some ls bs e q a.1) ∙ rw (le-leb e.key d.key a.0)
 
-no_index : (x t : ℕ) (es : List Entry) → only is_index es ≡ [] → smallest (above x (left t (only is_index es ++ []))) ≡ none
+no_index : (x t : ℕ) (es : List Entry) → only is_index es ≡ [] → smallest (above x (left t (only is_index es ++ []))) ≡ None
 unfolding smallest only left
 no_index x t es e = ap (λ z. smallest (above x (left t (z ++ [])))) e
 
@@ -73,15 +73,15 @@ unfolding left
 least-up x t es rest high hi le ix bound l =
     rw (ix, only-append (λ e. leb e.stamp t) es rest, le, only-append (λ e. ltb x e.key) es (left t rest))
     (⊎_elim
-    (λ (n : (smallest (above x (left t rest)) ≡ none) × (high ≡ upper x es hi)).
+    (λ (n : (smallest (above x (left t rest)) ≡ None) × (high ≡ upper x es hi)).
     let n1 = n.1 in
     ⊎_elim
-    (λ (m : (smallest (above x es) ≡ none) × (upper x es hi ≡ hi)). inl (small-append-none (above x es) (above x (left t rest)) n.0 ∙ m.0, n.1 ∙ m.1))
-    (λ (m : (e : Entry) × (smallest (above x es) ≡ some e) × (e.key ≡ upper x es hi) × (upper x es hi < hi)).
+    (λ (m : (smallest (above x es) ≡ None) × (upper x es hi ≡ hi)). inl (small-append-none (above x es) (above x (left t rest)) n.0 ∙ m.0, n.1 ∙ m.1))
+    (λ (m : (e : Entry) × (smallest (above x es) ≡ Some e) × (e.key ≡ upper x es hi) × (upper x es hi < hi)).
     let m3 = m.3 in
     inr (m.0, small-append-none (above x es) (above x (left t rest)) n.0 ∙ m.1, m.2 ∙ sym n.1, omega arith))
     (small-upper x es hi bound))
-    (λ (s : (e : Entry) × (smallest (above x (left t rest)) ≡ some e) × (e.key ≡ high) × (high < upper x es hi)).
+    (λ (s : (e : Entry) × (smallest (above x (left t rest)) ≡ Some e) × (e.key ≡ high) × (high < upper x es hi)).
     let ul = upper-le x es hi in let s2 = s.2 in let s3 = s.3 in
     inr (
       s.0,
@@ -105,7 +105,7 @@ pub record Ends (g : ℕ → Option Entry) (t x lo hi : ℕ) (p : List Visit) : 
   pub least : Least x (left t (index_on p)) high hi
 
 pub tree-ends : (rd : Reading) (g : ℕ → Option Entry) (t : ℕ) → Early t rd → (h b lo hi : ℕ) → Tree rd g h b lo hi
-    → (x : ℕ) → lo ≤ x → x < hi → (f : ℕ) → h < f → (p : List Visit) × (length p ≡ suc h) × (path rd t x f b lo ≡ some p) × Ends g t x lo hi p
+    → (x : ℕ) → lo ≤ x → x < hi → (f : ℕ) → h < f → (p : List Visit) × (length p ≡ suc h) × (path rd t x f b lo ≡ Some p) × Ends g t x lo hi p
 unfolding path go_in go met down_to data_of index_on
 tree-ends rd g t early h b lo hi tr x p q zero lt = absurd (omega arith)
 tree-ends rd g t early zero b lo hi tr x p q (suc f) lt =

@@ -6,7 +6,7 @@ use lib.ListN.{length}
 use mathlib.Core.Bool.{true}
 use mathlib.Core.List.{List, ◌++◌}
 use mathlib.Core.Logic.{⊎_elim}
-use mathlib.Core.Option.{Option, some}
+use Rattle.std.specs.Prelude.{Option, Some}
 use mathlib.Core.Path.{◌∙◌, ◌≡◌, ap, subst, sym}
 use native.Mathlib.Omega.{arith}
 use Rattle.rules.specs.declared.Entry.{Entry}
@@ -56,7 +56,7 @@ pub record Keeps (h : Head) (card : List ℕ) (g : ℕ → ℕ → Option Entry)
   pub since : begin ≤ s
   pub small : s < 4294967296
   -- every walk arrives at a data bucket that tells the truth for its range of keys
-  pub answers : (t x : ℕ) → begin ≤ t → x < 4294967296 → (p : List Visit) × (walk h card t x ≡ some p) × Ends (g t) t x 0 4294967296 p
+  pub answers : (t x : ℕ) → begin ≤ t → x < 4294967296 → (p : List Visit) × (walk h card t x ≡ Some p) × Ends (g t) t x 0 4294967296 p
 
 -- no entry of the buckets is stamped after t
 early-upto : (h : Head) (card : List ℕ) (t : ℕ) → size_of h ≡ length card → stamp_on h card ≤ t → Early t (bucket h card)
@@ -65,7 +65,7 @@ early-upto h card t size le c cs q = left-upto t cs (bucket-stamps h card size t
 -- as of a stamp that nothing is after, a card in order gives what its tree holds
 pub now-ends : (h : Head) (card : List ℕ) (g : ℕ → Option Entry) (k : ℕ) (st : State h card g k) (t : ℕ) → stamp_on h card ≤ t
     → All (λ e. e.stamp ≤ t) st.logs
-    → (x : ℕ) → x < 4294967296 → (p : List Visit) × (walk h card t x ≡ some p) × Ends g t x 0 4294967296 p
+    → (x : ℕ) → x < 4294967296 → (p : List Visit) × (walk h card t x ≡ Some p) × Ends g t x 0 4294967296 p
 unfolding walk path_in path_from
 now-ends h card g k st t up lu x lt =
     let hf = head-facts card h st.head in
@@ -85,7 +85,7 @@ mark-top h card s size m =
 
 module _ (h : Head) (card : List ℕ) (g : ℕ → ℕ → Option Entry) (begin s : ℕ) (ke : Keeps h card g begin s) (e : Entry) (asks : Asks e) where
   -- the walk of a write
-  pub write-walk : (p : List Visit) × (walk h card latest e.key ≡ some p)
+  pub write-walk : (p : List Visit) × (walk h card latest e.key ≡ Some p)
   write-walk =
       let sm = ke.small in
       let si = ke.since in
@@ -133,7 +133,7 @@ module _ (h : Head) (card : List ℕ) (g : ℕ → ℕ → Option Entry) (begin 
       (all_append (λ d. d.stamp ≤ e.stamp) st.logs w.new-log
       (all_map (λ d. d.stamp ≤ s) (λ d. d.stamp ≤ e.stamp) (λ d l. omega arith) st.logs ke.logs-upto) w.log-grows.2) in
       let calm : (t x : ℕ) → e.stamp ≤ t → upd ke.now e x ≡ more g e t x
-      = λ t x le. sym (rw (le-leb e.stamp t le) (ap (λ z. if (eqb e.key x) (standing (some e)) z) (sym (ke.calm t x (omega arith))))) in
+      = λ t x le. sym (rw (le-leb e.stamp t le) (ap (λ z. if (eqb e.key x) (standing (Some e)) z) (sym (ke.calm t x (omega arith))))) in
       record {
         height = w.height;
         now = upd ke.now e;

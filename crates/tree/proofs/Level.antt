@@ -2,7 +2,7 @@
 use mathlib.Core.Path.{◌∙◌, ◌≡◌, ap, ap₂, refl, subst, sym}
 use mathlib.Core.Logic.{◌⊎◌, inl, inr, ⊎_elim}
 use mathlib.Core.Bool.{Bool, false, true}
-use mathlib.Core.Option.{Option, some}
+use Rattle.std.specs.Prelude.{Option, Some}
 use Prim.Native.Nat.{◌+◌, ◌-◌, ◌/◌, ◌<◌, ◌≤◌, min, ℕ}
 use native.Mathlib.Omega.{arith}
 use mathlib.Core.List.{List, [], ◌++◌, ◌∷◌, append-nil}
@@ -43,12 +43,12 @@ zip-span2 i lo hi m (e ∷ es) a b = ((a.0.0, b.0, a.0.2, a.0.3), zip-span2 i lo
 -- what is known of a level before the hand is placed
 pub record Before (h : Head) (card : List ℕ) (g g' : ℕ → Option Entry) (k b lo hi s : ℕ) (r : Rise) (es : List Entry) : Type 0 where
   pub lim : Lim h
-  pub same1 : (c : ℕ) (cs : List Entry) → bucket h card c ≡ some cs → bucket h r.card c ≡ some cs
+  pub same1 : (c : ℕ) (cs : List Entry) → bucket h card c ≡ Some cs → bucket h r.card c ≡ Some cs
   pub late : Late s r.hand
-  pub added : ((p : Entry) × (copy_of p.key (es ++ r.hand) ≡ some p) × (p.stamp ≡ s) × (is_data p ≡ true)) ⊎ Mark s (bucket h r.card)
+  pub added : ((p : Entry) × (copy_of p.key (es ++ r.hand) ≡ Some p) × (p.stamp ≡ s) × (is_data p ≡ true)) ⊎ Mark s (bucket h r.card)
   pub ready1 : Ready h r.card r.fresh
   pub fresh1 : 1 ≤ r.fresh
-  pub here : bucket h card b ≡ some es
+  pub here : bucket h card b ≡ Some es
   pub old : Tree (bucket h card) g k b lo hi
   pub range : (lo < hi) × (hi ≤ 4294967296) × (s < 4294967296)
   pub heads : HeadIs lo es
@@ -70,11 +70,11 @@ module _ (h : Head) (card : List ℕ) (g g' : ℕ → Option Entry) (k b lo hi s
         ready = j.ready;
         grows = λ c cs q. ⊎_elim
             (λ cb. let e : cs ≡ es = cc (q, ap (bucket h card) cb, bf.here) in
-            (r.hand, ap (bucket h card2) cb ∙ j.here ∙ ap (λ z. some (z ++ r.hand)) (sym e), bf.late))
-            (λ ne. ([], j.others c ne ∙ bf.same1 c cs q ∙ ap some (sym (append-nil cs)), tt))
+            (r.hand, ap (bucket h card2) cb ∙ j.here ∙ ap (λ z. Some (z ++ r.hand)) (sym e), bf.late))
+            (λ ne. ([], j.others c ne ∙ bf.same1 c cs q ∙ ap Some (sym (append-nil cs)), tt))
             (eq-or-ne c b);
         mark = ⊎_elim
-            (λ (a : (p : Entry) × (copy_of p.key (es ++ r.hand) ≡ some p) × (p.stamp ≡ s) × (is_data p ≡ true)).
+            (λ (a : (p : Entry) × (copy_of p.key (es ++ r.hand) ≡ Some p) × (p.stamp ≡ s) × (is_data p ≡ true)).
             (b, es ++ r.hand, j.here, λ u. copy-all (λ e. is_data e ≡ true → e.stamp ≡ s → ⊥) a.0.key (es ++ r.hand) a.0 u a.1 a.3 a.2))
             (λ (m : Mark s (bucket h card1)). ⊎_elim
             (λ (cb : m.0 ≡ b). let e : m.1 ≡ es = cc (m.2, ap (bucket h card1) cb, bf.same1 b es bf.here) in
@@ -111,7 +111,7 @@ module _ (h : Head) (card : List ℕ) (g g' : ℕ → Option Entry) (k b lo hi s
   fine-all = kept-all (Fine h.n) lo s (es ++ r.hand)
       (all_append (Fine h.n) es r.hand es-good bf.good)
 
-  ks-marked : (a : (p : Entry) × (copy_of p.key (es ++ r.hand) ≡ some p) × (p.stamp ≡ s) × (is_data p ≡ true)) → Unmarked s ks → ⊥
+  ks-marked : (a : (p : Entry) × (copy_of p.key (es ++ r.hand) ≡ Some p) × (p.stamp ≡ s) × (is_data p ≡ true)) → Unmarked s ks → ⊥
   ks-marked a u = kept-marked lo s (es ++ r.hand) a.0 a.1 a.2 a.3 u
 
   -- the kept entries in one fresh bucket, or in two
@@ -128,7 +128,7 @@ module _ (h : Head) (card : List ℕ) (g g' : ℕ → Option Entry) (k b lo hi s
         opened = record {
           ready = nb.ready;
           mark = ⊎_elim
-              (λ (a : (p : Entry) × (copy_of p.key (es ++ r.hand) ≡ some p) × (p.stamp ≡ s) × (is_data p ≡ true)). (b1, ks, nb.here, ks-marked a))
+              (λ (a : (p : Entry) × (copy_of p.key (es ++ r.hand) ≡ Some p) × (p.stamp ≡ s) × (is_data p ≡ true)). (b1, ks, nb.here, ks-marked a))
               (λ (m : Mark s (bucket h card1)). (m.0, m.1, nb.same m.0 m.1 m.2, m.3))
               bf.added;
           same = λ c cs q. nb.same c cs (bf.same1 c cs q);
@@ -168,7 +168,7 @@ module _ (h : Head) (card : List ℕ) (g g' : ℕ → Option Entry) (k b lo hi s
         opened = record {
           ready = fb2.ready;
           mark = ⊎_elim
-              (λ (i : (p : Entry) × (copy_of p.key (es ++ r.hand) ≡ some p) × (p.stamp ≡ s) × (is_data p ≡ true)). ⊎_elim
+              (λ (i : (p : Entry) × (copy_of p.key (es ++ r.hand) ≡ Some p) × (p.stamp ≡ s) × (is_data p ≡ true)). ⊎_elim
               (λ (a : Unmarked s as1). (b2, bs1, fb2.here, λ b. ks-marked i (subst (Unmarked s) (sym eq) (all_append (λ e. is_data e ≡ true → e.stamp ≡ s → ⊥) as1 bs1 a b))))
               (λ (z : Unmarked s as1 → ⊥). (b1, as1, fb2.same b1 as1 fb1.here, z))
               (unmarked? s as1))

@@ -2,7 +2,7 @@
 use mathlib.Core.Path.{◌∙◌, ◌≡◌, ap, refl, sym}
 use mathlib.Core.Logic.{◌⊎◌, inl, inr, ⊎_elim}
 use mathlib.Core.Bool.{true}
-use mathlib.Core.Option.{some}
+use Rattle.std.specs.Prelude.{Some}
 use Prim.Native.Nat.{◌+◌, ◌<◌, ◌≤◌, suc, zero, ℕ}
 use native.Mathlib.Omega.{arith}
 use mathlib.Core.List.{List, [], ◌++◌, ◌∷◌}
@@ -25,10 +25,10 @@ use Rattle.tree.proofs.Ready.{Ready}
 pub record Logged (h : Head) (card card' : List ℕ) (f : ℕ) (lg : List Entry) : Type 0 where
   pub ready : Ready h card' f
   pub head : sector_at card' 0 ≡ sector_at card 0
-  pub logged : log h card' ≡ some lg
+  pub logged : log h card' ≡ Some lg
   pub same : (c : ℕ) → bucket h card' c ≡ bucket h card c
 
-pub log-step : (h : Head) (card : List ℕ) (f : ℕ) (lg : List Entry) (r : Entry) → Ready h card f → log h card ≡ some lg
+pub log-step : (h : Head) (card : List ℕ) (f : ℕ) (lg : List Entry) (r : Entry) → Ready h card f → log h card ≡ Some lg
     → 1 ≤ length (log_blanks h card)
     → Fine h.n r → is_root r ≡ true → Logged h card (fill card (log_blanks h card) (r ∷ [])) f (lg ++ (r ∷ []))
 unfolding log_blanks bucket size_of base

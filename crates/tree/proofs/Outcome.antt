@@ -2,7 +2,7 @@
 use mathlib.Core.Path.{◌∙◌, ◌≡◌, refl, sym}
 use mathlib.Core.Logic.{◌⊎◌, inl, inr, ⊎_elim}
 use mathlib.Core.Bool.{Bool, false, not, true}
-use mathlib.Core.Option.{Option, some}
+use Rattle.std.specs.Prelude.{Option, Some}
 use Prim.Native.Nat.{◌<◌, ◌≤◌, ℕ}
 use native.Mathlib.Omega.{arith}
 use mathlib.Core.List.{List, [], ◌∷◌}
@@ -63,7 +63,7 @@ abbrev pub Unmarked : ℕ → List Entry → Type 0
 Unmarked s cs = All (λ e. is_data e ≡ true → e.stamp ≡ s → ⊥) cs
 
 abbrev pub Mark : ℕ → Reading → Type 0
-Mark s rd = (c : ℕ) × (cs : List Entry) × (rd c ≡ some cs) × (Unmarked s cs → ⊥)
+Mark s rd = (c : ℕ) × (cs : List Entry) × (rd c ≡ Some cs) × (Unmarked s cs → ⊥)
 
 pub unmarked? : (s : ℕ) (cs : List Entry) → Unmarked s cs ⊎ (Unmarked s cs → ⊥)
 unmarked? s [] = inl tt
@@ -82,7 +82,7 @@ or-true2 false true = refl
 or-true2 false false = refl
 
 -- the entry just added is kept
-pub kept-marked : (hk s : ℕ) (es : List Entry) (p : Entry) → copy_of p.key es ≡ some p → p.stamp ≡ s → is_data p ≡ true → Unmarked s (kept hk s es)
+pub kept-marked : (hk s : ℕ) (es : List Entry) (p : Entry) → copy_of p.key es ≡ Some p → p.stamp ≡ s → is_data p ≡ true → Unmarked s (kept hk s es)
     → ⊥
 unfolding kept
 kept-marked hk s es p q ps pd u =
@@ -102,13 +102,13 @@ pub record Closed (h : Head) (card card' : List ℕ) (g g' : ℕ → Option Entr
   pub high : ℕ
   pub spot-tree : Tree (bucket h card) g height spot low high
   pub within : (height ≤ k) × (lo ≤ low) × (low < hi) × (low < high)
-  pub same : (c : ℕ) (cs : List Entry) → (c ≡ spot → ⊥) → bucket h card c ≡ some cs → bucket h card' c ≡ some cs
+  pub same : (c : ℕ) (cs : List Entry) → (c ≡ spot → ⊥) → bucket h card c ≡ Some cs → bucket h card' c ≡ Some cs
   pub tree : Tree (bucket h card') g' k b lo hi
 
 pub record Open (h : Head) (card card' : List ℕ) (s f : ℕ) : Type 0 where
   pub ready : Ready h card' f
   pub mark : Mark s (bucket h card')
-  pub same : (c : ℕ) (cs : List Entry) → bucket h card c ≡ some cs → bucket h card' c ≡ some cs
+  pub same : (c : ℕ) (cs : List Entry) → bucket h card c ≡ Some cs → bucket h card' c ≡ Some cs
 
 abbrev pub IsPair : ℕ → ℕ → ℕ → Entry → Type 0
 IsPair n s k p = (p.key ≡ k) × (is_index p ≡ true) × Fine n p × (p.stamp ≡ s)

@@ -1,7 +1,7 @@
 -- New pairs at the end of an index bucket lead to the new buckets, and to the old ones for other keys.
 use mathlib.Core.Path.{◌∙◌, ◌≡◌, ap, refl, sym}
 use mathlib.Core.Logic.{◌⊎◌, inl, inr, ⊎_elim}
-use mathlib.Core.Option.{Option, some}
+use Rattle.std.specs.Prelude.{Option, Some}
 use Prim.Native.Nat.{◌<◌, ◌≤◌, min, ℕ}
 use native.Mathlib.Omega.{arith}
 use mathlib.Core.List.{List, [], ◌++◌, ◌∷◌}
@@ -14,7 +14,7 @@ use Rattle.tree.proofs.Tree.{Kids, Reading, Tree, tree-ext}
 
 -- where x is sent by es
 abbrev pub Sent : ℕ → List Entry → ℕ → Entry → ℕ → Type 0
-Sent x es hi e u = (follow x es ≡ some e) × (upper x es hi ≡ u)
+Sent x es hi e u = (follow x es ≡ Some e) × (upper x es hi ≡ u)
 
 module _ (x : ℕ) (es : List Entry) (hi : ℕ) (d : Entry) (u : ℕ) (s : Sent x es hi d u) (p : Entry) where
   upper-snoc-in : p.key ≤ x → upper x (es ++ (p ∷ [])) hi ≡ u
@@ -36,12 +36,12 @@ module _ (x : ℕ) (es : List Entry) (hi : ℕ) (d : Entry) (u : ℕ) (s : Sent 
 
 -- a tree moved to where x is sent
 moved : (rd : Reading) (g : ℕ → Option Entry) (h x : ℕ) (es : List Entry) (hi : ℕ) (e : Entry) (u : ℕ)
-    → Sent x es hi e u → Tree rd g h e.value e.key u → (e : Entry) × (follow x es ≡ some e) × Tree rd g h e.value e.key (upper x es hi)
+    → Sent x es hi e u → Tree rd g h e.value e.key u → (e : Entry) × (follow x es ≡ Some e) × Tree rd g h e.value e.key (upper x es hi)
 moved rd g h x es hi e u s tr = (e, s.0, rw s.1 tr)
 
 -- one pair in place of the child d of x0
 module _ (rd : Reading) (g g' : ℕ → Option Entry) (h lo hi : ℕ) (es : List Entry) (kids : Kids rd g h es lo hi)
-    (x0 : ℕ) (d : Entry) (sd : follow x0 es ≡ some d)
+    (x0 : ℕ) (d : Entry) (sd : follow x0 es ≡ Some d)
     (same : (x : ℕ) → (x < d.key) ⊎ (upper x0 es hi ≤ x) → g x ≡ g' x) where
   -- where x is not sent to d's place, it is sent out of d's range
   pub away : (x : ℕ) (lx : lo ≤ x) (xh : x < hi) → ((kids x lx xh).0.key ≡ d.key → ⊥)

@@ -1,6 +1,6 @@
 -- The card between two writes of one call: its buckets from f on are blank.
 use mathlib.Core.Path.{◌∙◌, ◌≡◌, ap, sym}
-use mathlib.Core.Option.{some}
+use Rattle.std.specs.Prelude.{Some}
 use Prim.Native.Nat.{◌+◌, ◌<◌, ◌≤◌, ℕ}
 use native.Mathlib.Omega.{arith}
 use mathlib.Core.List.{List, [], ◌++◌}
@@ -22,20 +22,20 @@ use Rattle.laws.proofs.Used.{top-raw}
 pub record Ready (h : Head) (card : List ℕ) (f : ℕ) : Type 0 where
   pub bytes : Bytes card
   pub size : size_of h ≡ length card
-  pub blank : (c : ℕ) → f ≤ c → c ≤ h.n → raw h card c ≡ some []
-  pub whole : (c : ℕ) → 1 ≤ c → (es : List Entry) × (raw h card c ≡ some es)
+  pub blank : (c : ℕ) → f ≤ c → c ≤ h.n → raw h card c ≡ Some []
+  pub whole : (c : ℕ) → 1 ≤ c → (es : List Entry) × (raw h card c ≡ Some es)
 
 -- a fresh bucket is filled
 pub record Fresh (h : Head) (card card' : List ℕ) (b : ℕ) (ks : List Entry) : Type 0 where
   pub ready : Ready h card' (b + 1)
   pub front : (j : ℕ) → j < 1 + h.n → sector_at card' j ≡ sector_at card j
-  pub here : bucket h card' b ≡ some ks
+  pub here : bucket h card' b ≡ Some ks
   pub others : (c : ℕ) → (c ≡ b → ⊥) → bucket h card' c ≡ bucket h card c
-  pub same : (c : ℕ) (cs : List Entry) → bucket h card c ≡ some cs → bucket h card' c ≡ some cs
+  pub same : (c : ℕ) (cs : List Entry) → bucket h card c ≡ Some cs → bucket h card' c ≡ Some cs
 
 pub fresh-bucket : (h : Head) (card : List ℕ) (f b : ℕ) (ks : List Entry) → Ready h card f → f ≤ b → 1 ≤ b → b ≤ h.n
     → length ks ≤ length (blanks_of h card b)
-    → Good h.n ks → sound_bucket ks ≡ some ks → Fresh h card (into h b ks card) b ks
+    → Good h.n ks → sound_bucket ks ≡ Some ks → Fresh h card (into h b ks card) b ks
 unfolding sound_bucket into
 fresh-bucket h card f b ks rdy fb lo hi room good sound =
     let bl = rdy.blank b fb hi in
@@ -58,11 +58,11 @@ fresh-bucket h card f b ks rdy fb lo hi room good sound =
 -- entries are added to a bucket
 pub record Joined (h : Head) (card card' : List ℕ) (f b : ℕ) (es : List Entry) : Type 0 where
   pub ready : Ready h card' f
-  pub here : bucket h card' b ≡ some es
+  pub here : bucket h card' b ≡ Some es
   pub others : (c : ℕ) → (c ≡ b → ⊥) → bucket h card' c ≡ bucket h card c
 
-pub join-bucket : (h : Head) (card : List ℕ) (f b : ℕ) (es new : List Entry) → Ready h card f → 1 ≤ f → bucket h card b ≡ some es
-    → length new ≤ length (blanks_of h card b) → Good h.n new → sound_bucket (es ++ new) ≡ some (es ++ new)
+pub join-bucket : (h : Head) (card : List ℕ) (f b : ℕ) (es new : List Entry) → Ready h card f → 1 ≤ f → bucket h card b ≡ Some es
+    → length new ≤ length (blanks_of h card b) → Good h.n new → sound_bucket (es ++ new) ≡ Some (es ++ new)
     → Joined h card (into h b new card) f b (es ++ new)
 unfolding sound_bucket into
 join-bucket h card f b es new rdy lf q fits good sound =
@@ -83,6 +83,6 @@ join-bucket h card f b es new rdy lf q fits good sound =
     }
 
 -- so the card is ready from one past it
-pub ready-top : (h : Head) (card : List ℕ) → Bytes card → size_of h ≡ length card → ((c : ℕ) → 1 ≤ c → (es : List Entry) × (raw h card c ≡ some es))
+pub ready-top : (h : Head) (card : List ℕ) → Bytes card → size_of h ≡ length card → ((c : ℕ) → 1 ≤ c → (es : List Entry) × (raw h card c ≡ Some es))
     → Ready h card (top_used h card h.n + 1)
 ready-top h card bytes size whole = record { bytes = bytes; size = size; blank = λ c p q. top-raw h card c (omega arith) q; whole = whole }

@@ -2,7 +2,7 @@
 use mathlib.Core.Path.{◌≡◌, refl, sym, ◌∙◌, subst}
 use mathlib.Core.Logic.{⊎_elim}
 use mathlib.Core.Bool.{true}
-use mathlib.Core.Option.{Option, some}
+use Rattle.std.specs.Prelude.{Option, Some}
 use Prim.Native.Nat.{ℕ, zero, suc, ◌+◌, ◌-◌, ◌≤◌, ◌<◌, min}
 use native.Mathlib.Omega.{arith}
 use mathlib.Core.List.{List, [], ◌∷◌, ◌++◌, append-nil}
@@ -28,7 +28,7 @@ use Rattle.tree.proofs.Outcome.{key_of-head}
 use Rattle.tree.proofs.Ready.{Ready, Fresh, fresh-bucket}
 use Rattle.tree.proofs.Tree.{Reading, Span, HeadIs, Shape, Tree, Kids, tree-fresh, some_inj}
 
-one-follow : (x : ℕ) (p : Entry) → p.key ≤ x → follow x (p ∷ []) ≡ some p
+one-follow : (x : ℕ) (p : Entry) → p.key ≤ x → follow x (p ∷ []) ≡ Some p
 unfolding follow only largest larger
 one-follow x p le = rw (le-leb p.key x le)
 
@@ -89,7 +89,7 @@ FirstAt b (p ∷ ps) = p.value ≡ b
 
 -- an entry stamped s can be read
 abbrev pub Stamped : ℕ → Reading → Type 0
-Stamped s rd = (c : ℕ) × (cs : List Entry) × (rd c ≡ some cs) × (All (λ e. e.stamp ≡ s → ⊥) cs → ⊥)
+Stamped s rd = (c : ℕ) × (cs : List Entry) × (rd c ≡ Some cs) × (All (λ e. e.stamp ≡ s → ⊥) cs → ⊥)
 
 -- the entries es, in key order, are to go into buckets from b on
 pub record Hand (h : Head) (card : List ℕ) (g : ℕ → Option Entry) (s b k lo hi : ℕ) (es : List Entry) : Type 0 where
@@ -104,7 +104,7 @@ pub record Hand (h : Head) (card : List ℕ) (g : ℕ → Option Entry) (s b k l
 pub record Row (h : Head) (card card' : List ℕ) (g : ℕ → Option Entry) (s b k lo hi f : ℕ) (es ps : List Entry) : Type 0 where
   pub ready : Ready h card' f
   pub front : (j : ℕ) → j < 1 + h.n → sector_at card' j ≡ sector_at card j
-  pub same : (c : ℕ) (cs : List Entry) → bucket h card c ≡ some cs → bucket h card' c ≡ some cs
+  pub same : (c : ℕ) (cs : List Entry) → bucket h card c ≡ Some cs → bucket h card' c ≡ Some cs
   pub content : Kids (bucket h card') g k ps lo hi
   pub shape : Shape true lo hi ps
   pub sorted : Sorted ps

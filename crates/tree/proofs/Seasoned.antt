@@ -2,7 +2,7 @@
 use mathlib.Core.Path.{◌≡◌, refl, ap, ap₂, sym, ◌∙◌, subst}
 use mathlib.Core.Logic.{⊎_elim}
 use mathlib.Core.Bool.{Bool, true, false, not}
-use mathlib.Core.Option.{Option, none, some}
+use Rattle.std.specs.Prelude.{Option, None, Some}
 use Prim.Native.Nat.{ℕ, zero, suc, ◌+◌, ◌*◌, ◌-◌, ◌≤◌, ◌<◌}
 use native.Mathlib.Omega.{arith}
 use mathlib.Core.List.{List, [], ◌∷◌}
@@ -68,10 +68,10 @@ rec-fine n t e r = (r.0, rw (r.1, le-leb 1 e.key r.2, le-leb 1 e.stamp r.3) r.5)
 -- the dummy says nothing
 dummy-said : (b : Bool) (r : Option Entry) → standing (cstep b dummy r) ≡ standing r
 unfolding standing is_post
-dummy-said true none = refl
-dummy-said true (some c) = refl
-dummy-said false none = refl
-dummy-said false (some c) = refl
+dummy-said true None = refl
+dummy-said true (Some c) = refl
+dummy-said false None = refl
+dummy-said false (Some c) = refl
 
 dummy-span : Span false 0 4294967296 dummy
 unfolding is_index is_data
@@ -180,11 +180,11 @@ module _ (h : Head) (lim : limits h ≡ true) (t : ℕ) (t32 : t < 4294967296) (
   buckets zero = refl
   buckets (suc c) = ap (λ z. and_then z sound_bucket) (raws (suc c))
 
-  log2 : log h card2 ≡ some (root ∷ [])
+  log2 : log h card2 ≡ Some (root ∷ [])
   unfolding log sound_log every is_root run onto
   log2 = log-one h.n refl
     where
-      log-one : (n : ℕ) → h.n ≡ n → and_then (run h.n card2 1 n) sound_log ≡ some (root ∷ [])
+      log-one : (n : ℕ) → h.n ≡ n → and_then (run h.n card2 1 n) sound_log ≡ Some (root ∷ [])
       log-one zero e = absurd (let n2 = limit.n2 in omega arith)
       log-one (suc c) e =
           rw (decode-put h.n card1 root fine-root.1 1 1 refl room, run-blank h.n card2 2 c (λ j p q. blank-log j p (omega arith)))
@@ -318,15 +318,15 @@ season-chain h t target r new t32 recs q Q qp qd qs =
     (chain2 h p.lim t t32 target p.long p.blank r.records recs p.room Q qp qd qs)
 
 for-passed : (card : List ℕ) (t : ℕ) (target : List ℕ) (th : Head) (o : Option Head) (new : List ℕ) → season_for card t target th o ≡ accept new
-    → (h : Head) × (o ≡ some h) × (beginning card ≤ t) × (season_to th t target (standing_at card t) ≡ accept new)
+    → (h : Head) × (o ≡ Some h) × (beginning card ≤ t) × (season_to th t target (standing_at card t) ≡ accept new)
 unfolding season_for
-for-passed card t target th none new q = absurd (no-accept 1 new q)
-for-passed card t target th (some h) new q =
+for-passed card t target th None new q = absurd (no-accept 1 new q)
+for-passed card t target th (Some h) new q =
     let a = passed (ltb t (beginning card)) 13 (season_to th t target (standing_at card t)) new q in
     (h, refl, ltb-false t (beginning card) a.0, a.1)
 
 -- the source has a head, and its beginning is not after t
 pub season-passed : (card : List ℕ) (t : ℕ) (target : List ℕ) (n m td ti : ℕ) (new : List ℕ) → season card t target n m td ti ≡ accept new
-    → (h : Head) × (head_of card ≡ some h) × (beginning card ≤ t) × (season_to (meant n m td ti) t target (standing_at card t) ≡ accept new)
+    → (h : Head) × (head_of card ≡ Some h) × (beginning card ≤ t) × (season_to (meant n m td ti) t target (standing_at card t) ≡ accept new)
 unfolding season
 season-passed card t target n m td ti new q = for-passed card t target (meant n m td ti) (head_of card) new q

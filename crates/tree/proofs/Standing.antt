@@ -2,7 +2,7 @@
 use mathlib.Core.Path.{◌≡◌, refl, ap, sym, ◌∙◌, subst}
 use mathlib.Core.Logic.{inl, inr, ⊎_elim}
 use mathlib.Core.Bool.{Bool, true, false}
-use mathlib.Core.Option.{Option, none, some}
+use Rattle.std.specs.Prelude.{Option, None, Some}
 use Prim.Native.Nat.{ℕ, zero, suc, ◌+◌, ◌≤◌, ◌<◌}
 use native.Mathlib.Omega.{arith}
 use mathlib.Core.List.{List, [], ◌∷◌}
@@ -30,7 +30,7 @@ use Rattle.tree.proofs.Keeps.{Keeps, keeps-next}
 use Rattle.tree.proofs.Seasoned.{Records, said}
 
 -- the record of an answer is the entry that it was given for
-record-given : (e : Entry) → e.kind ≡ 1 → record_of (given (some e)) ≡ e
+record-given : (e : Entry) → e.kind ≡ 1 → record_of (given (Some e)) ≡ e
 record-given e k = λ i. record { kind = sym k i; status = e.status; key = e.key; stamp = e.stamp; value = e.value }
 
 abbrev Rising : ℕ → ℕ → List Entry → Type 0
@@ -57,24 +57,24 @@ unfolding standing_at
 standing-records card by t = (rolled-rising card by t 4294967296 0).0
 
 -- what stands is a post
-stands-as-post : (r : Option Entry) (e : Entry) → standing r ≡ some e → e.kind ≡ 1
+stands-as-post : (r : Option Entry) (e : Entry) → standing r ≡ Some e → e.kind ≡ 1
 unfolding standing is_post
-stands-as-post none e q = absurd (none-some q)
-stands-as-post (some c) e q = go (eqb c.kind 1) refl q
+stands-as-post None e q = absurd (none-some q)
+stands-as-post (Some c) e q = go (eqb c.kind 1) refl q
   where
-    go : (b : Bool) → eqb c.kind 1 ≡ b → if b (some c) none ≡ some e → e.kind ≡ 1
+    go : (b : Bool) → eqb c.kind 1 ≡ b → if b (Some c) None ≡ Some e → e.kind ≡ 1
     go true t w = let ce : c ≡ e = cc in subst (λ z. z.kind ≡ 1) ce (eqb-true c.kind 1 t)
     go false t w = absurd (none-some w)
 
-said-none : (x : ℕ) (rs : List Entry) → All (λ d. d.key ≡ x → ⊥) rs → said rs x ≡ none
+said-none : (x : ℕ) (rs : List Entry) → All (λ d. d.key ≡ x → ⊥) rs → said rs x ≡ None
 unfolding copy_of only last_of standing
 said-none x rs a = ap standing (copy-low x [] rs a)
 
-pub said-first : (e : Entry) (rs : List Entry) → e.kind ≡ 1 → All (λ d. e.key < d.key) rs → said (e ∷ rs) e.key ≡ some e
+pub said-first : (e : Entry) (rs : List Entry) → e.kind ≡ 1 → All (λ d. e.key < d.key) rs → said (e ∷ rs) e.key ≡ Some e
 unfolding copy_of only last_of standing is_post
 said-first e rs k a =
-    let c : copy_of e.key rs ≡ none = copy-low e.key [] rs (all_map (λ d. e.key < d.key) (λ d. d.key ≡ e.key → ⊥) (λ d l z. omega arith) rs a) in
-    let f : copy_of e.key (e ∷ rs) ≡ some e = copy-cons e.key e rs ∙ rw (eq-eqb e.key e.key refl, c) in
+    let c : copy_of e.key rs ≡ None = copy-low e.key [] rs (all_map (λ d. e.key < d.key) (λ d. d.key ≡ e.key → ⊥) (λ d l z. omega arith) rs a) in
+    let f : copy_of e.key (e ∷ rs) ≡ Some e = copy-cons e.key e rs ∙ rw (eq-eqb e.key e.key refl, c) in
     ap standing f ∙ rw (eq-eqb e.kind 1 k)
 
 pub said-later : (x : ℕ) (e : Entry) (rs : List Entry) → (e.key ≡ x → ⊥) → said (e ∷ rs) x ≡ said rs x
@@ -85,8 +85,8 @@ pub record Whole (g : ℕ → Option Entry) (k : ℕ) (r : Roll) : Type 0 where
   pub code : r.code ≡ 0
   pub says : (x : ℕ) → k < x → x < 4294967296 → said r.records x ≡ g x
 
-whole-more : (g : ℕ → Option Entry) (k : ℕ) (e : Entry) (r : Roll) → k < e.key → e.kind ≡ 1 → g e.key ≡ some e
-    → ((y : ℕ) → k < y → y < e.key → g y ≡ none) → All (λ d. e.key < d.key) r.records → Whole g e.key r
+whole-more : (g : ℕ → Option Entry) (k : ℕ) (e : Entry) (r : Roll) → k < e.key → e.kind ≡ 1 → g e.key ≡ Some e
+    → ((y : ℕ) → k < y → y < e.key → g y ≡ None) → All (λ d. e.key < d.key) r.records → Whole g e.key r
     → Whole g k (roll r.code (e ∷ r.records))
 whole-more g k e r ke kind here gap up w =
     record {
@@ -103,7 +103,7 @@ whole-more g k e r ke kind here gap up w =
     }
 
 module _ (h : Head) (card : List ℕ) (g : ℕ → ℕ → Option Entry) (begin s : ℕ) (ke : Keeps h card g begin s) (t : ℕ) (since : begin ≤ t) where
-  keeps-post : (x : ℕ) → x < 4294967296 → (e : Entry) → g t x ≡ some e → e.kind ≡ 1
+  keeps-post : (x : ℕ) → x < 4294967296 → (e : Entry) → g t x ≡ Some e → e.kind ≡ 1
   unfolding stands_on
   keeps-post x lt e q =
       let a = ke.answers t x since lt in

@@ -1,7 +1,7 @@
 -- A card in order: its head, its log, and a tree that holds what stands.
 use mathlib.Core.Path.{◌≡◌}
 use mathlib.Core.Logic.{⊎_elim}
-use mathlib.Core.Option.{Option, some}
+use Rattle.std.specs.Prelude.{Option, Some}
 use Prim.Native.Nat.{◌+◌, ◌<◌, ◌≤◌, min, ℕ}
 use native.Mathlib.Omega.{arith}
 use mathlib.Core.List.{List, [], ◌∷◌}
@@ -23,15 +23,15 @@ use Rattle.tree.proofs.Tree.{Early, Kids, Reading, Tree}
 
 pub record State (h : Head) (card : List ℕ) (g : ℕ → Option Entry) (k : ℕ) : Type 0 where
   pub bytes : Bytes card
-  pub head : head_of card ≡ some h
+  pub head : head_of card ≡ Some h
   pub logs : List Entry
-  pub log_is : log h card ≡ some logs
+  pub log_is : log h card ≡ Some logs
   pub last : Entry
-  pub last-is : last_of logs ≡ some last
+  pub last-is : last_of logs ≡ Some last
   pub tree : Tree (bucket h card) g k last.value 0 4294967296
-  pub whole : (c : ℕ) → 1 ≤ c → (es : List Entry) × (raw h card c ≡ some es)
+  pub whole : (c : ℕ) → 1 ≤ c → (es : List Entry) × (raw h card c ≡ Some es)
   -- some bucket's number is above the height, and above the number of log entries: so neither the walk's N nor the log runs out
-  pub tall : (b : ℕ) × (es : List Entry) × (bucket h card b ≡ some es) × (k + 1 ≤ b) × (length logs < b)
+  pub tall : (b : ℕ) × (es : List Entry) × (bucket h card b ≡ Some es) × (k + 1 ≤ b) × (length logs < b)
 
 pub early-max : (h : Head) (card : List ℕ) → Bytes card → Early 4294967295 (bucket h card)
 early-max h card b c es q = left-latest h.n es (run-good h.n card b (base h c) h.m es (bucket-raw h card c es q).1)

@@ -2,7 +2,7 @@
 use mathlib.Core.Path.{◌∙◌, ◌≡◌, ap, refl, subst, sym}
 use mathlib.Core.Logic.{◌⊎◌, inl, inr, ⊎_elim}
 use mathlib.Core.Bool.{Bool, false, true}
-use mathlib.Core.Option.{Option, some}
+use Rattle.std.specs.Prelude.{Option, Some}
 use Prim.Native.Nat.{◌<◌, ◌≤◌, suc, zero, ℕ}
 use native.Mathlib.Omega.{arith}
 use mathlib.Core.List.{List, [], ◌∷◌}
@@ -35,18 +35,18 @@ Shape i lo hi es = HeadIs lo es × All (Span i lo hi) es
 -- bucket b and what is below it hold g for the keys from lo up to hi, in h levels of index
 abbrev pub Tree : Reading → (ℕ → Option Entry) → ℕ → ℕ → ℕ → ℕ → Type 0
 Tree rd g zero b lo hi =
-    (es : List Entry) × (rd b ≡ some es) × Shape false lo hi es × ((x : ℕ) → lo ≤ x → x < hi → standing (copy_of x es) ≡ g x)
+    (es : List Entry) × (rd b ≡ Some es) × Shape false lo hi es × ((x : ℕ) → lo ≤ x → x < hi → standing (copy_of x es) ≡ g x)
 Tree rd g (suc h) b lo hi =
-    (es : List Entry) × (rd b ≡ some es) × Shape true lo hi es
-    × ((x : ℕ) → lo ≤ x → x < hi → (e : Entry) × (follow x es ≡ some e) × Tree rd g h e.value e.key (upper x es hi))
+    (es : List Entry) × (rd b ≡ Some es) × Shape true lo hi es
+    × ((x : ℕ) → lo ≤ x → x < hi → (e : Entry) × (follow x es ≡ Some e) × Tree rd g h e.value e.key (upper x es hi))
 
 -- the trees below an index bucket with the entries es
 abbrev pub Kids : Reading → (ℕ → Option Entry) → ℕ → List Entry → ℕ → ℕ → Type 0
-Kids rd g h es lo hi = (x : ℕ) → lo ≤ x → x < hi → (e : Entry) × (follow x es ≡ some e) × Tree rd g h e.value e.key (upper x es hi)
+Kids rd g h es lo hi = (x : ℕ) → lo ≤ x → x < hi → (e : Entry) × (follow x es ≡ Some e) × Tree rd g h e.value e.key (upper x es hi)
 
 -- no entry is stamped after t
 abbrev pub Early : ℕ → Reading → Type 0
-Early t rd = (b : ℕ) (es : List Entry) → rd b ≡ some es → left t es ≡ es
+Early t rd = (b : ℕ) (es : List Entry) → rd b ≡ Some es → left t es ≡ es
 
 pub turn-data : (t x lo hi : ℕ) (es : List Entry) → Shape false lo hi es → turn t x lo es ≡ arrived
 unfolding turn
@@ -64,7 +64,7 @@ data-cons v [] h q = absurd (omega arith)
 data-cons v (w ∷ p) h q = refl
 
 -- a tree stands where every bucket that could be read is read alike
-pub tree-fresh : (rd rd' : Reading) (g : ℕ → Option Entry) → ((b : ℕ) (es : List Entry) → rd b ≡ some es → rd' b ≡ some es)
+pub tree-fresh : (rd rd' : Reading) (g : ℕ → Option Entry) → ((b : ℕ) (es : List Entry) → rd b ≡ Some es → rd' b ≡ Some es)
     → (h b lo hi : ℕ) → Tree rd g h b lo hi → Tree rd' g h b lo hi
 tree-fresh rd rd' g same zero b lo hi tr = (tr.0, same b tr.0 tr.1, tr.2, tr.3)
 tree-fresh rd rd' g same (suc h) b lo hi tr = (
@@ -94,11 +94,11 @@ head-eq [] j k a b = absurd a
 head-eq (e ∷ es) j k a b = sym a ∙ b
 
 -- the header of a bucket of a tree, and the entries that are read there
-tree-entries : (rd : Reading) (g : ℕ → Option Entry) (h b lo hi : ℕ) → Tree rd g h b lo hi → (es : List Entry) × (rd b ≡ some es) × HeadIs lo es
+tree-entries : (rd : Reading) (g : ℕ → Option Entry) (h b lo hi : ℕ) → Tree rd g h b lo hi → (es : List Entry) × (rd b ≡ Some es) × HeadIs lo es
 tree-entries rd g zero b lo hi tr = (tr.0, tr.1, tr.2.0)
 tree-entries rd g (suc h) b lo hi tr = (tr.0, tr.1, tr.2.0)
 
-pub some_inj : {A : Type 0} {x y : A} → some x ≡ some y → x ≡ y
+pub some_inj : {A : Type 0} {x y : A} → Some x ≡ Some y → x ≡ y
 some_inj e = cc
 
 data-index : (rd : Reading) (g g' : ℕ → Option Entry) (h b lo lo' hi hi' : ℕ) → Tree rd g zero b lo hi → Tree rd g' (suc h) b lo' hi' → ⊥
@@ -144,7 +144,7 @@ tree-not rd g g' c k m top tc mt h b lo hi lt out tr q =
 
 -- where only bucket c changes, such a tree stands
 pub tree-frame : (rd rd' : Reading) (g g' : ℕ → Option Entry) (c k m top : ℕ) → Tree rd g' k c m top → m < top
-    → ((b : ℕ) (es : List Entry) → (b ≡ c → ⊥) → rd b ≡ some es → rd' b ≡ some es)
+    → ((b : ℕ) (es : List Entry) → (b ≡ c → ⊥) → rd b ≡ Some es → rd' b ≡ Some es)
     → (h b lo hi : ℕ) → lo < hi → (m < lo) ⊎ ((hi ≤ m) ⊎ (h < k)) → Tree rd g h b lo hi → Tree rd' g h b lo hi
 tree-frame rd rd' g g' c k m top tc mt same zero b lo hi lt out tr =
     (tr.0, same b tr.0 (tree-not rd g g' c k m top tc mt zero b lo hi lt out tr) tr.1, tr.2, tr.3)

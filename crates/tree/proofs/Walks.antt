@@ -4,7 +4,7 @@ use lib.Dec.{leb}
 use lib.ListN.{length}
 use mathlib.Core.Bool.{Bool, false, true}
 use mathlib.Core.List.{List, [], ◌++◌, ◌∷◌}
-use mathlib.Core.Option.{Option, none, some}
+use Rattle.std.specs.Prelude.{Option, None, Some}
 use mathlib.Core.Path.{◌∙◌, ◌≡◌, ap, ap₂, refl, sym}
 use Rattle.rules.specs.declared.Entry.{Entry}
 use Rattle.rules.specs.declared.Head.{Head}
@@ -19,17 +19,17 @@ use Rattle.tree.proofs.AsOf.{Again, Alike, Grows, left-late, path-late}
 use Rattle.tree.proofs.Write.{Wrote}
 
 from-late : (t s x : ℕ) (rd rd' : ℕ → Option (List Entry)) (f : ℕ) (r : Option Entry) (p : List Visit) → t < s → Grows s rd rd'
-    → path_from rd t x f r ≡ some p → Again t (path_from rd' t x f r) p
+    → path_from rd t x f r ≡ Some p → Again t (path_from rd' t x f r) p
 unfolding path_from
-from-late t s x rd rd' f none p lt gr q = absurd (none-some q)
-from-late t s x rd rd' f (some r) p lt gr q = path-late t s x rd rd' lt gr f r.value 0 p q
+from-late t s x rd rd' f None p lt gr q = absurd (none-some q)
+from-late t s x rd rd' f (Some r) p lt gr q = path-late t s x rd rd' lt gr f r.value 0 p q
 
 -- the walk as of t is the same walk afterwards
-pub walk-late : (h : Head) (card card' : List ℕ) (g' : ℕ → Option Entry) (s : ℕ) (lg : List Entry) → log h card ≡ some lg → Wrote h card card' g' s lg
-    → (t x : ℕ) → t < s → (p : List Visit) → walk h card t x ≡ some p → Again t (walk h card' t x) p
+pub walk-late : (h : Head) (card card' : List ℕ) (g' : ℕ → Option Entry) (s : ℕ) (lg : List Entry) → log h card ≡ Some lg → Wrote h card card' g' s lg
+    → (t x : ℕ) → t < s → (p : List Visit) → walk h card t x ≡ Some p → Again t (walk h card' t x) p
 unfolding walk path_in
 walk-late h card card' g' s lg lq w t x lt p q =
-    let q1 : path_from (bucket h card) t x h.n (last_of (left t lg)) ≡ some p = rw lq at q in
+    let q1 : path_from (bucket h card) t x h.n (last_of (left t lg)) ≡ Some p = rw lq at q in
     rw (w.log-grows.0, left-late t s lg w.new-log lt w.log-grows.1)
     (from-late t s x (bucket h card) (bucket h card') h.n (last_of (left t lg)) p lt w.grows q1)
 

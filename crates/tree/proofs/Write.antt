@@ -2,7 +2,7 @@
 use mathlib.Core.Path.{◌∙◌, ◌≡◌, ap, refl, subst, sym}
 use mathlib.Core.Logic.{inl, inr}
 use mathlib.Core.Bool.{false, true, Bool}
-use mathlib.Core.Option.{Option, some}
+use Rattle.std.specs.Prelude.{Option, Some}
 use Prim.Native.Nat.{◌+◌, ◌<◌, ◌≤◌, suc, ℕ}
 use native.Mathlib.Omega.{arith}
 use mathlib.Core.List.{List, [], ◌++◌, ◌∷◌, append-nil}
@@ -45,11 +45,11 @@ pub record Wrote (h : Head) (card card' : List ℕ) (g' : ℕ → Option Entry) 
   pub grows : Grows s (bucket h card) (bucket h card')
   pub mark : Mark s (bucket h card')
   pub new-log : List Entry
-  pub log-grows : (log h card' ≡ some (lg ++ new-log)) × Late s new-log × All (λ e. e.stamp ≤ s) new-log
+  pub log-grows : (log h card' ≡ Some (lg ++ new-log)) × Late s new-log × All (λ e. e.stamp ≤ s) new-log
 
-all-grows : (h : Head) (card card' : List ℕ) (s : ℕ) → ((c : ℕ) (cs : List Entry) → bucket h card c ≡ some cs → bucket h card' c ≡ some cs)
+all-grows : (h : Head) (card card' : List ℕ) (s : ℕ) → ((c : ℕ) (cs : List Entry) → bucket h card c ≡ Some cs → bucket h card' c ≡ Some cs)
     → Grows s (bucket h card) (bucket h card')
-all-grows h card card' s f c cs q = ([], f c cs q ∙ ap some (sym (append-nil cs)), tt)
+all-grows h card card' s f c cs q = ([], f c cs q ∙ ap Some (sym (append-nil cs)), tt)
 
 is-root : (s b : ℕ) → is_root (root_entry s b) ≡ true
 unfolding is_root
@@ -88,11 +88,11 @@ module _ (h : Head) (card : List ℕ) (g g' : ℕ → Option Entry) (k s : ℕ) 
         grows = c.grows;
         mark = c.mark;
         new-log = [];
-        log-grows = (ls ∙ ap some (sym (append-nil st.logs)), tt, tt);
+        log-grows = (ls ∙ ap Some (sym (append-nil st.logs)), tt, tt);
       }
 
   -- a new root b of height k', a fresh bucket of the card card1, logged
-  log-state : (card1 : List ℕ) (f b k' : ℕ) (es : List Entry) → Front card1 → Open h card card1 s f → 1 ≤ length (log_blanks h card1) → bucket h card1 b ≡ some es
+  log-state : (card1 : List ℕ) (f b k' : ℕ) (es : List Entry) → Front card1 → Open h card card1 s f → 1 ≤ length (log_blanks h card1) → bucket h card1 b ≡ Some es
       → Tree (bucket h card1) g' k' b 0 4294967296 → k' + 1 ≤ b → top_used h card h.n < b
       → Wrote h card (fill card1 (log_blanks h card1) (root_entry s b ∷ [])) g' s st.logs
   log-state card1 f b k' es front op room bq tr kb nb =
@@ -101,7 +101,7 @@ module _ (h : Head) (card : List ℕ) (g g' : ℕ → Option Entry) (k s : ℕ) 
       let w = bucket-within h card1 b es op.ready.size bq in
       let lg = log-step h card1 f st.logs (root_entry s b) op.ready ls room (root-fine h.n s b s32 r.0 w lim.n4096) (is-root s b) in
       let card' = fill card1 (log_blanks h card1) (root_entry s b ∷ []) in
-      let same : (c : ℕ) (cs : List Entry) → bucket h card1 c ≡ some cs → bucket h card' c ≡ some cs = λ c cs q. lg.same c ∙ q in
+      let same : (c : ℕ) (cs : List Entry) → bucket h card1 c ≡ Some cs → bucket h card' c ≡ Some cs = λ c cs q. lg.same c ∙ q in
       let tb = st.tall in
       let before = tb.4 in
       let used = used-top h card tb.0 tb.1 size tb.2 in
@@ -211,7 +211,7 @@ checked-accept h full r le free = rw (le-ltb (h.n + 1) r.fresh le, free)
 -- a write: what it leaves if it is accepted, and that it is if the fresh buckets needed remain
 pub write_step : (h : Head) (card : List ℕ) (g : ℕ → Option Entry) (k : ℕ) (st : State h card g k) (e : Entry) → Fine h.n e
     → (is_index e ≡ false) × (is_data e ≡ true)
-    → (p : List Visit) × (path (bucket h card) 4294967295 e.key h.n st.last.value 0 ≡ some p)
+    → (p : List Visit) × (path (bucket h card) 4294967295 e.key h.n st.last.value 0 ≡ Some p)
     × ((new : List ℕ) → plan_on h card e p ≡ accept new → Wrote h card new (upd g e) e.stamp st.logs)
     × (fresh_after h card e p ≤ h.n + 1 → (new : List ℕ) × (plan_on h card e p ≡ accept new))
 unfolding plan_on finish fresh_after

@@ -1,6 +1,6 @@
 -- The size that a head within the limits asks for does not wrap, and is at least a sector.
 use mathlib.Core.Path.{◌≡◌, refl}
-use mathlib.Core.Option.{Option, none, some}
+use Rattle.std.specs.Prelude.{Option, None, Some}
 use mathlib.Core.List.{List}
 use Prim.Native.Nat.{ℕ, ◌+◌, ◌*◌, ◌≤◌, ◌<◌}
 use native.Mathlib.Nat.{mul-le-mul_left}
@@ -17,13 +17,13 @@ size_fits n m hm hn =
     omega arith
 
 -- a card of fewer bytes than a sector has no head
-not_short : (card : List ℕ) (h : Head) → length card < 16 → head_of card ≡ some h → ⊥
+not_short : (card : List ℕ) (h : Head) → length card < 16 → head_of card ≡ Some h → ⊥
 unfolding size_of
 not_short card h short q = let long = (head-facts card h q).1 in omega arith
 
-pub short_none : (card : List ℕ) → length card < 16 → head_of card ≡ none
+pub short_none : (card : List ℕ) → length card < 16 → head_of card ≡ None
 short_none card short = by-case (head_of card) refl
   where
-    by-case : (o : Option Head) → head_of card ≡ o → o ≡ none
-    by-case none q = refl
-    by-case (some h) q = absurd (not_short card h short q)
+    by-case : (o : Option Head) → head_of card ≡ o → o ≡ None
+    by-case None q = refl
+    by-case (Some h) q = absurd (not_short card h short q)

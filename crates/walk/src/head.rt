@@ -1,51 +1,40 @@
 // The card's head, read and judged.
 ghost use Rattle.std.specs.Prelude.{◌≡◌, ◌≤◌, eqb, length};
 ghost use Rattle.rules.specs.Plain.{◌&◌, within};
-ghost use Rattle.rules.specs.Layout.{limits, size_of, head_fields, head_in, head_of, beginning};
-ghost use Rattle.walk.specs.Heads.{layout_of};
+ghost use Rattle.rules.specs.Layout.{limits, size_of, head_fields, head_in, head_of};
+ghost use Rattle.walk.specs.Heads.{Reads};
 
-use crate::Layout;
-use rules::Head;
+use bucket::Card;
+use rules::{Head, Refusal};
 
-fn wide(x: u8) -> usize
-    ensures { result ≡ x }
-{
-    x as usize
-}
-
+#[tactic(auto, unfolding(rules::specs::Layout::head_fields))]
 fn head_fields(s: &[u8]) -> Head
     requires { length s.now ≡ 16 }
     ensures { result ≡ head_fields s.now }
 {
-    let n = sector::read_word(s, 4);
     Head {
-        m: wide(s[1]),
-        td: wide(s[2]),
-        ti: wide(s[3]),
-        n: n as usize,
+        m: usize::from(s[1]),
+        td: usize::from(s[2]),
+        ti: usize::from(s[3]),
+        n: sector::read_word(s, 4) as usize,
     }
 }
 
+#[tactic(auto, unfolding(rules::specs::Plain::within))]
 fn in_range(lo: usize, x: usize, hi: usize) -> bool
     ensures { result ≡ within lo x hi }
 {
-    if lo <= x {
-        return x <= hi;
-    }
-    false
+    lo <= x && x <= hi
 }
 
+#[tactic(auto, unfolding(rules::specs::Layout::limits))]
 fn in_limits(h: Head) -> bool
     ensures { result ≡ limits h }
 {
-    if in_range(4, h.m, 32) {
-        if in_range(2, h.n, 4096) {
-            if in_range(2, h.td, h.m) {
-                return in_range(4, h.ti, h.m);
-            }
-        }
-    }
-    false
+    in_range(4, h.m, 32)
+        && in_range(2, h.n, 4096)
+        && in_range(2, h.td, h.m)
+        && in_range(4, h.ti, h.m)
 }
 
 // The product is computed only for a head within the limits: it cannot wrap.
@@ -60,50 +49,30 @@ fn has_size(h: Head, len: usize) -> bool
 pub fn suits(h: Head, len: usize) -> bool
     ensures { result ≡ (limits h & eqb len (size_of h)) }
 {
-    if in_limits(h) {
-        return has_size(h, len);
-    }
-    false
+    in_limits(h) && has_size(h, len)
 }
 
-fn keeps_layout(kind: u8, end: u32, h: Head, len: usize) -> bool
-    ensures { result ≡ (eqb kind 6 & eqb end 0 & limits h & eqb len (size_of h)) }
-{
-    if kind == 6 {
-        if end == 0 {
-            return suits(h, len);
-        }
-    }
-    false
-}
-
-fn head_in(s: &[u8], len: usize) -> Layout
+// The geometry that sector 0 gives a card of so many bytes, unless it or the length breaks the layout.
+#[tactic(auto, unfolding(rules::specs::Layout::head_in))]
+fn head_in(s: &[u8], len: usize) -> Option<Head>
     requires { length s.now ≡ 16 }
-    ensures { result ≡ layout_of (head_in s.now len) }
+    ensures { result ≡ head_in s.now len }
 {
     let h = head_fields(s);
     let end = sector::read_word(s, 12);
-    if keeps_layout(s[0], end, h, len) {
-        return Layout::Sound(h);
+    if s[0] == 6 && end == 0 && suits(h, len) {
+        return Some(h);
     }
-    Layout::Broken
+    None
 }
 
-// The geometry that sector 0 gives the card, or that it or the length breaks the layout.
-pub fn read_head(card: &[u8]) -> Layout
-    ensures { result ≡ layout_of (head_of card.now) }
+// The card of these bytes.
+pub fn read(bytes: &[u8]) -> Result<Card<'_>, Refusal>
+    ensures { Reads bytes.now result }
 {
-    let len = card.len();
-    if len < 16 {
-        return Layout::Broken;
+    if bytes.len() < 16 {
+        return Err(Refusal::Layout);
     }
-    head_in(&card[0..16], len)
-}
-
-// The stamp that the card begins with.
-pub fn beginning(card: &[u8]) -> u32
-    requires { 16 ≤ length card.now }
-    ensures { result ≡ beginning card.now }
-{
-    sector::read_word(sector::bytes(card, 0), 8)
+    let head = head_in(&bytes[..16], bytes.len()).ok_or(Refusal::Layout)?;
+    Ok(Card { bytes, head })
 }

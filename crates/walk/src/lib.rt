@@ -2,132 +2,87 @@
 #![tactic(auto)]
 
 ghost use Rattle.std.specs.Prelude.{◌≡◌, ◌≤◌};
-ghost use Rattle.rules.specs.Answers.{refused};
+ghost use Rattle.rules.specs.Answers.{result_of};
 ghost use Rattle.rules.specs.Look.{look};
 ghost use Rattle.scan.specs.Scan.{sectors, search_log};
-ghost use Rattle.scan.specs.Look.{trip, walk_scan, trip_from, told};
-ghost use Rattle.bucket.specs.Shapes.{Shape};
+ghost use Rattle.scan.specs.Look.{walk_scan, trip_from, told};
 
 pub mod head;
 
-use rules::{Answer, Head};
-use scan::{Found, Trip, Way};
+use bucket::Card;
+use rules::{Answer, Damage, Entry, Refusal};
+use scan::{Trip, Way};
 
-// What the head and the length of a card say.
-#[derive(Clone, Copy)]
-pub enum Layout {
-    Broken,
-    Sound(Head),
-}
-
-fn trip_of(reads: u32, found: Found) -> Trip
-    ensures { result ≡ trip reads found }
+// From the root down, one bucket a turn. The buckets read are at most as many as the card has.
+fn descend(card: &Card, root: u32, key: u32, stamp: u32) -> Result<Trip, Damage>
+    requires { (1 ≤ root) × (root ≤ card.now.head.n) }
+    ensures { result ≡ walk_scan card.now.head card.now.bytes.now key stamp card.now.head.n 0 root 0 }
 {
-    Trip { reads, found }
-}
-
-// From the root down, one bucket a turn, which is counted. The buckets read are at most as many as the card has.
-fn descend(card: &[u8], head: Head, root: u32, key: u32, stamp: u32) -> Trip
-    requires shape { Shape head card.now }
-    requires le_root { (1 ≤ root) × (root ≤ head.n) }
-    ensures { result ≡ walk_scan head card.now key stamp head.n 0 root 0 }
-{
-    let n = head.n as u32;
     let mut b = root;
-    let mut header: u32 = 0;
-    let mut reads: u32 = 0;
-    loop {
-        if reads == n {
-            return trip_of(0, Found::Damage);
-        }
-        let way = bucket::search(card, head, b, header, key, stamp);
-        let count = reads + 1;
-        match way {
-            Way::Lost => return trip_of(0, Found::Damage),
+    let mut header = 0;
+    for reads in 0..card.head.n as u32 {
+        match card.search(b, header, key, stamp)? {
             Way::Down(e) => {
                 b = e.value;
                 header = e.key;
-                reads = count;
             }
-            Way::Absent => return trip_of(count, Found::Nothing),
-            Way::Copy(e) => return trip_of(count, Found::Hit(e)),
+            Way::End(copy) => {
+                let reads = reads + 1;
+                return Ok(Trip { reads, copy });
+            }
         }
     }
+    Err(Damage)
 }
 
 // The walk to a key as of a stamp, from the log's last root entry left.
-fn walk(card: &[u8], head: Head, key: u32, stamp: u32) -> Trip
-    requires { Shape head card.now }
-    ensures { result ≡ trip_from head card.now key stamp (search_log stamp (sectors head.n card.now 1 head.n)) }
+fn walk(card: &Card, key: u32, stamp: u32) -> Result<Trip, Damage>
+    ensures { result ≡ trip_from card.now.head card.now.bytes.now key stamp (search_log stamp (sectors card.now.head.n card.now.bytes.now 1 card.now.head.n)) }
 {
-    let found = bucket::find_root(card, head, stamp);
-    let Found::Hit(root) = found else {
-        return trip_of(0, Found::Damage);
-    };
-    descend(card, head, root.value, key, stamp)
-}
-
-// The answer that refuses, with its number.
-pub fn refusal(code: u32) -> Answer
-    ensures { result ≡ refused code }
-{
-    Answer {
-        code,
-        bib: 0,
-        at: 0,
-        status: 0,
-        time: 0,
-        reads: 0,
-    }
+    let root = card.root_at(stamp)?;
+    descend(card, root.value, key, stamp)
 }
 
 // The answer that a walk's end gives: a strike, or no copy, is none.
-pub fn tell(bib: u32, reads: u32, found: Found) -> Answer
-    ensures { result ≡ told bib reads found }
+#[tactic(auto, unfolding(scan::specs::Look::told, rules::specs::Answers::sheet, rules::specs::Answers::ended, rules::specs::Walk::standing))]
+pub fn tell(bib: u32, reads: u32, copy: Option<Entry>) -> Answer
+    ensures { result ≡ told bib reads copy }
 {
     let none = Answer {
-        code: 0,
         bib,
-        at: 0,
-        status: 0,
-        time: 0,
         reads,
+        ..Answer::end()
     };
-    match found {
-        Found::Damage => refusal(4),
-        Found::Nothing => none,
-        Found::Hit(e) => {
-            let posted = e.kind == 1;
-            if posted {
-                return Answer {
-                    code: 0,
-                    bib,
-                    at: e.stamp,
-                    status: e.status,
-                    time: e.value,
-                    reads,
-                };
-            }
-            none
-        }
+    let Some(e) = copy else {
+        return none;
+    };
+    let posted = e.is_post();
+    if posted {
+        return Answer {
+            at: e.stamp,
+            status: e.status,
+            time: e.value,
+            ..none
+        };
     }
+    none
+}
+
+fn looked(card: &[u8], bib: u32, at: u32) -> Result<Answer, Refusal>
+    ensures { result_of result ≡ look card.now bib at }
+{
+    let card = head::read(card)?;
+    if bib == 0 {
+        return Err(Refusal::NoBib);
+    }
+    card.as_of(at)?;
+    let trip = walk(&card, bib, at)?;
+    Ok(tell(bib, trip.reads, trip.copy))
 }
 
 // What stands for the bib as of `at`, and the buckets read.
 pub fn look(card: &[u8], bib: u32, at: u32) -> Answer
     ensures { result ≡ look card.now bib at }
 {
-    let layout = head::read_head(card);
-    let Layout::Sound(head) = layout else {
-        return refusal(1);
-    };
-    if bib == 0 {
-        return refusal(2);
-    }
-    if at < head::beginning(card) {
-        return refusal(13);
-    }
-    let trip = walk(card, head, bib, at);
-    let found = trip.found;
-    tell(bib, trip.reads, found)
+    Answer::of(looked(card, bib, at))
 }

@@ -2,7 +2,7 @@
 use mathlib.Core.Path.{◌≡◌, refl, ap, sym, ◌∙◌, subst}
 use mathlib.Core.Logic.{⊎_elim}
 use mathlib.Core.Bool.{Bool, true, false}
-use mathlib.Core.Option.{some}
+use Rattle.std.specs.Prelude.{Some}
 use mathlib.Core.List.{List, [], ◌∷◌}
 use Prim.Native.Nat.{ℕ, ◌+◌, ◌-◌, ◌≤◌, ◌<◌}
 use native.Mathlib.Omega.{arith}
@@ -56,18 +56,18 @@ log-open h card [] = refl
 log-open h card (e ∷ es) = refl
 
 -- the buckets of a path that is read, in the order of the way up
-reads_up : (h : Head) (card : List ℕ) (p : List Visit) (above : List ℕ) → Along (λ v. bucket h card v.number ≡ some v.entries) p → AllRead h card above
+reads_up : (h : Head) (card : List ℕ) (p : List Visit) (above : List ℕ) → Along (λ v. bucket h card v.number ≡ Some v.entries) p → AllRead h card above
     → AllRead h card (upward p above)
 unfolding upward entries_on
 reads_up h card [] above a r = r
-reads_up h card (v ∷ p) above a r = reads_up h card p (v.number ∷ above) a.1 (a.0 ∙ ap some (sym (ap or_empty a.0)), r)
+reads_up h card (v ∷ p) above a r = reads_up h card p (v.number ∷ above) a.1 (a.0 ∙ ap Some (sym (ap or_empty a.0)), r)
 
 below_up : (h : Head) (card : List ℕ) (f : ℕ) (p : List Visit) (above : List ℕ) → Along (λ v. v.number < f) p → AllBelow f above → AllBelow f (upward p above)
 unfolding upward
 below_up h card f [] above a r = r
 below_up h card f (v ∷ p) above a r = below_up h card f p (v.number ∷ above) a.1 (a.0, r)
 
-module _ (h : Head) (card : List ℕ) (hq : head_of card ≡ some h) (e : Entry) (p : List Visit) (w : walk h card latest e.key ≡ some p) where
+module _ (h : Head) (card : List ℕ) (hq : head_of card ≡ Some h) (e : Entry) (p : List Visit) (w : walk h card latest e.key ≡ Some p) where
   abbrev first : ℕ
   first = top_used h card h.n + 1
 
@@ -87,7 +87,7 @@ module _ (h : Head) (card : List ℕ) (hq : head_of card ≡ some h) (e : Entry)
       record {
         shape = sh;
         reads = reads_up h card p [] rd tt;
-        below = below_up h card first p [] (along-map (λ v. bucket h card v.number ≡ some v.entries) (λ v. v.number < first) (λ v q. let k = used-top h card v.number v.entries sh.long q in omega arith) p rd) tt;
+        below = below_up h card first p [] (along-map (λ v. bucket h card v.number ≡ Some v.entries) (λ v. v.number < first) (λ v q. let k = used-top h card v.number v.entries sh.long q in omega arith) p rd) tt;
         least = omega arith;
         free = λ c a b. top-raw h card c (omega arith) b;
         logs = walk-log h card latest e.key p w;
@@ -207,7 +207,7 @@ none_left a n le =
     (eq-or-ne a n)
 
 -- a log whose every sector is written has no blank
-pub log-none : (h : Head) (card : List ℕ) (es : List Entry) (u : ℕ) → Shape h card → log h card ≡ some es → u ≡ used_of 0 (log_of h card) 0 h.n
+pub log-none : (h : Head) (card : List ℕ) (es : List Entry) (u : ℕ) → Shape h card → log h card ≡ Some es → u ≡ used_of 0 (log_of h card) 0 h.n
     → eqb u h.n ≡ eqb (length (log_blanks h card)) 0
 log-none h card es u sh q e =
     let lg = log-reads h card es sh q in

@@ -1,10 +1,10 @@
--- A sector as the writer lays it down: four words.
+-- A sector as the writer lays it down: four bytes, and three numbers.
 use Rattle.std.specs.Prelude.{ℕ, ◌<◌, List, ◌++◌}
 use Rattle.rules.specs.declared.Entry.{Entry}
 use Rattle.rules.specs.Sector.{le4}
 
-unfoldable pub four_words : ℕ → ℕ → ℕ → ℕ → List ℕ
-four_words first key stamp value = le4 first ++ (le4 key ++ (le4 stamp ++ le4 value))
+unfoldable pub four_words : List ℕ → ℕ → ℕ → ℕ → List ℕ
+four_words first key stamp value = first ++ (le4 key ++ (le4 stamp ++ le4 value))
 
 -- kind and status are a byte each
 abbrev pub Narrow : Entry → Type 0

@@ -8,48 +8,43 @@ ghost use Rattle.writer.specs.Words.{Narrow, four_words};
 
 use rules::{Entry, Head};
 
-// The four bytes of x, lowest first.
-fn write_word(part: &mut [u8], x: u32)
-    requires { length part.old ≡ 4 }
-    ensures { part.new ≡ le4 x }
-{
-    part[0] = (x % 256) as u8;
-    part[1] = (x / 256 % 256) as u8;
-    part[2] = (x / 65536 % 256) as u8;
-    part[3] = (x / 16777216) as u8;
-}
-
-fn write_sector(sector: &mut [u8], first: u32, key: u32, stamp: u32, value: u32)
+// The sixteen bytes of a sector: four bytes, and three numbers, lowest byte first.
+#[tactic(auto, unfolding(rules::specs::Sector::le4, crate::specs::Words::four_words))]
+fn write_sector(sector: &mut [u8], first: [u8; 4], key: u32, stamp: u32, value: u32)
     requires { length sector.old ≡ 16 }
     ensures { sector.new ≡ four_words first key stamp value }
 {
-    write_word(&mut sector[0..4], first);
-    write_word(&mut sector[4..8], key);
-    write_word(&mut sector[8..12], stamp);
-    write_word(&mut sector[12..16], value);
+    sector[0..4].copy_from_slice(&first);
+    sector[4..8].copy_from_slice(&key.to_le_bytes());
+    sector[8..12].copy_from_slice(&stamp.to_le_bytes());
+    sector[12..16].copy_from_slice(&value.to_le_bytes());
 }
 
 // Sector i of the card is lent to the writer.
-fn lend(card: &mut [u8], i: usize, first: u32, key: u32, stamp: u32, value: u32)
+#[tactic(auto, unfolding(rules::specs::Sector::put))]
+fn lend(card: &mut [u8], i: usize, first: [u8; 4], key: u32, stamp: u32, value: u32)
     requires { 16 * i + 16 ≤ length card.old }
     ensures { card.new ≡ put card.old i (four_words first key stamp value) }
 {
-    let a = 16 * i;
-    write_sector(&mut card[a..a + 16], first, key, stamp, value);
+    let at = 16 * i;
+    write_sector(&mut card[at..at + 16], first, key, stamp, value);
 }
 
+#[tactic(auto, unfolding(rules::specs::Sector::encode, crate::specs::Words::four_words))]
 pub fn write_entry(card: &mut [u8], i: usize, e: Entry)
     requires { (16 * i + 16 ≤ length card.old) × Narrow e }
     ensures { card.new ≡ put card.old i (encode e) }
 {
-    lend(card, i, e.kind + 256 * e.status, e.key, e.stamp, e.value);
+    let first = [e.kind as u8, e.status as u8, 0, 0];
+    lend(card, i, first, e.key, e.stamp, e.value);
 }
 
 // The head of a card with its beginning, in sector 0.
+#[tactic(auto, unfolding(rules::specs::Layout::head_bytes, rules::specs::Sector::le4, crate::specs::Words::four_words))]
 pub fn write_head(card: &mut [u8], h: Head, begin: u32)
     requires { (16 ≤ length card.old) × (h.m < 256) × (h.td < 256) × (h.ti < 256) × (h.n < 4294967296) }
     ensures { card.new ≡ put card.old 0 (head_bytes h begin) }
 {
-    let first = 6 + 256 * h.m + 65536 * h.td + 16777216 * h.ti;
-    lend(card, 0, first as u32, h.n as u32, begin, 0);
+    let first = [6, h.m as u8, h.td as u8, h.ti as u8];
+    lend(card, 0, first, h.n as u32, begin, 0);
 }

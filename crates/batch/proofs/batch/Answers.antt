@@ -1,43 +1,55 @@
 -- `batch::batch` equals the rule for every card and all lent bytes.
-use mathlib.Core.Path.{◌≡◌, sym, ap, ◌∙◌}
-use mathlib.Core.Option.{some}
+use mathlib.Core.Path.{sym, ap, ◌∙◌}
 use lib.ListN.{length}
-use Rattle.rules.specs.Layout.{head_of}
 use Rattle.rules.specs.Batch.{Batch, paired}
-use Rattle.walk.proofs.Walks.{broken-none, sound-some}
 use Rattle.batch.proofs.Carries.{unpaired, one_by_one, whole, card-none, answers-none}
 use Rattle.batch.proofs.batch.Goals as goal
-use Rattle.batch.proofs.batch.Goals.{After-is_paired, In-Sound}
 
--- the two lengths, as tested
-pairs : (q : After-is_paired) → let a = q.args in q.is_paired.result ≡ paired a.requests.now a.answers.now
+pub returns-then-not-is_paired-clause-value : goal.returns-then-not-is_paired-clause-value
 unfolding paired
-pairs q = q.is_paired.ensures
+returns-then-not-is_paired-clause-value c = let a = c.args in sym (ap (λ (b : Batch). b.code) (unpaired a.card.now a.requests.now a.answers.now (sym c.if-not-is_paired.ensures)))
 
--- the head that was read is the card's
-head-met : (q : In-Sound) → head_of q.args.card.now ≡ some q.in-Sound.head
-head-met q = sound-some _ _ (sym q.read_head-layout.ensures ∙ q.in-Sound.is)
+pub returns-then-not-is_paired-clause-card_after : goal.returns-then-not-is_paired-clause-card_after
+unfolding paired
+returns-then-not-is_paired-clause-card_after c = let a = c.args in sym (ap (λ (b : Batch). b.card) (unpaired a.card.now a.requests.now a.answers.now (sym c.if-not-is_paired.ensures)))
 
-pub returns-in_default : goal.returns-in_default
-returns-in_default c =
+pub returns-then-not-is_paired-clause-answers_after : goal.returns-then-not-is_paired-clause-answers_after
+unfolding paired
+returns-then-not-is_paired-clause-answers_after c = let a = c.args in sym (ap (λ (b : Batch). b.answers) (unpaired a.card.now a.requests.now a.answers.now (sym c.if-not-is_paired.ensures)))
+
+pub returns-in-Err-clause-value : goal.returns-in-Err-clause-value
+unfolding paired
+returns-in-Err-clause-value c = let a = c.args in sym (ap (λ (b : Batch). b.code) (one_by_one a.card.now a.requests.now a.answers.now (sym c.if-not-is_paired.ensures)))
+
+pub returns-in-Err-clause-card_after : goal.returns-in-Err-clause-card_after
+unfolding paired
+returns-in-Err-clause-card_after c =
     let a = c.args in
-    let none = broken-none _ (sym c.read_head-layout.ensures ∙ c.in_default.is) in
-    let is = one_by_one a.card.now a.requests.now a.answers.now (sym (pairs (goal.at.returns-in_default c).After-is_paired) ∙ c.if-is_paired.true) in record { value = sym (ap (λ (b : Batch). b.code) is); card_after = sym (ap (λ (b : Batch). b.card) is ∙ card-none a.card.now a.requests.now 0 (length a.answers.now) none); answers_after = c.refuse_all.ensures ∙ sym (ap (λ (b : Batch). b.answers) is ∙ answers-none a.card.now a.requests.now 0 (length a.answers.now) none) }
+    sym (ap (λ (b : Batch). b.card) (one_by_one a.card.now a.requests.now a.answers.now (sym c.if-not-is_paired.ensures)) ∙ card-none a.card.now a.requests.now 0 (length a.answers.now) c.in-Err.ensures.1)
+
+pub returns-in-Err-clause-answers_after : goal.returns-in-Err-clause-answers_after
+unfolding paired
+returns-in-Err-clause-answers_after c =
+    let a = c.args in
+    rw c.in-Err.ensures.0 at c.fill.ensures.after (λ y is. is)
+    ∙ sym (ap (λ (b : Batch). b.answers) (one_by_one a.card.now a.requests.now a.answers.now (sym c.if-not-is_paired.ensures)) ∙ answers-none a.card.now a.requests.now 0 (length a.answers.now) c.in-Err.ensures.1)
 
 pub answer_all-requires : goal.answer_all-requires
-answer_all-requires c =
-    let a = c.args in
-    (head-met (goal.at.answer_all-requires c).In-Sound, whole a.card.now a.requests.now a.answers.now (sym (pairs (goal.at.answer_all-requires c).After-is_paired) ∙ c.if-is_paired.true))
+unfolding paired
+answer_all-requires c = let a = c.args in (c.in-Ok.ensures.0, whole a.card.now a.requests.now a.answers.now (sym c.if-not-is_paired.ensures))
 
-pub returns-then-is_paired : goal.returns-then-is_paired
-returns-then-is_paired c =
-    let a = c.args in
-    let is = one_by_one a.card.now a.requests.now a.answers.now (sym (pairs (goal.at.returns-then-is_paired c).After-is_paired) ∙ c.if-is_paired.true) in
-    let l = c.answer_all.ensures in
-    record { value = sym (ap (λ (b : Batch). b.code) is); card_after = l.card_after ∙ sym (ap (λ (b : Batch). b.card) is); answers_after = l.answers_after ∙ sym (ap (λ (b : Batch). b.answers) is) }
+pub returns-clause-value : goal.returns-clause-value
+unfolding paired
+returns-clause-value c = let a = c.args in sym (ap (λ (b : Batch). b.code) (one_by_one a.card.now a.requests.now a.answers.now (sym c.if-not-is_paired.ensures)))
 
-pub returns : goal.returns
-returns c =
+pub returns-clause-card_after : goal.returns-clause-card_after
+unfolding paired
+returns-clause-card_after c =
     let a = c.args in
-    let is = unpaired a.card.now a.requests.now a.answers.now (sym (pairs (goal.at.returns c).After-is_paired) ∙ c.if-is_paired.false) in
-    record { value = sym (ap (λ (b : Batch). b.code) is); card_after = sym (ap (λ (b : Batch). b.card) is); answers_after = sym (ap (λ (b : Batch). b.answers) is) }
+    c.answer_all.ensures.card_after ∙ sym (ap (λ (b : Batch). b.card) (one_by_one a.card.now a.requests.now a.answers.now (sym c.if-not-is_paired.ensures)))
+
+pub returns-clause-answers_after : goal.returns-clause-answers_after
+unfolding paired
+returns-clause-answers_after c =
+    let a = c.args in
+    c.answer_all.ensures.answers_after ∙ sym (ap (λ (b : Batch). b.answers) (one_by_one a.card.now a.requests.now a.answers.now (sym c.if-not-is_paired.ensures)))

@@ -6,24 +6,23 @@ use Rattle.rules.specs.Write.{plan}
 use Rattle.laws.proofs.Entries.{Asks}
 use Rattle.laws.proofs.Bytes.{get-bytes, bytes-sector}
 use Rattle.laws.proofs.Requests.{well-asks, ill-asked, asked}
-use Rattle.write.proofs.Codes.{began-not, began-same}
+use Rattle.write.proofs.Codes.{did-same}
 use Rattle.batch.proofs.begin.Goals as goal
+
+pub returns-then-not-well_asked : goal.returns-then-not-well_asked
+returns-then-not-well_asked c =
+    let a = c.args in
+    (ill-asked a.card.now (sector_at a.requests.now 0) a.head c.requires.0 (sym c.well_asked.ensures ∙ c.if-not-well_asked.true), refl)
 
 pub enter_on-requires : goal.enter_on-requires
 enter_on-requires c =
     let a = c.args in
     let by = get-bytes a.requests.now (λ i. omega (arith, c.type_inv.requests i)) in
-    (c.requires.0, subst Asks (sym c.fields_at-e.ensures) (well-asks (sector_at a.requests.now 0) (bytes-sector a.requests.now 0 by) (sym c.well_asked.ensures ∙ c.if-well_asked.true)))
-
-pub returns-then-well_asked : goal.returns-then-well_asked
-returns-then-well_asked c =
-    let a = c.args in
-    began-same _ a.head a.card.now _ _ _
-    (asked a.card.now (sector_at a.requests.now 0) a.head c.requires.0 (sym c.well_asked.ensures ∙ c.if-well_asked.true) ∙ ap (plan a.card.now) (sym c.fields_at-e.ensures))
-    c.enter_on.ensures
+    (c.requires.0, subst Asks (sym c.fields_at.ensures) (well-asks (sector_at a.requests.now 0) (bytes-sector a.requests.now 0 by) (sym c.well_asked.ensures ∙ c.if-not-well_asked.false)))
 
 pub returns : goal.returns
 returns c =
     let a = c.args in
-    began-not a.head a.card.now _ 11 _ (λ z. omega arith) refl
-    (ill-asked a.card.now (sector_at a.requests.now 0) a.head c.requires.0 (sym c.well_asked.ensures ∙ c.if-well_asked.false))
+    did-same _ a.head a.card.now _ _ _
+    (asked a.card.now (sector_at a.requests.now 0) a.head c.requires.0 (sym c.well_asked.ensures ∙ c.if-not-well_asked.false) ∙ ap (plan a.card.now) (sym c.fields_at.ensures))
+    c.enter_on.ensures

@@ -1,59 +1,53 @@
--- `batch::enter` follows the rule's plan for an entry, and what it carries on is read off the card it leaves.
+-- `batch::enter` follows the rule's plan for an entry, and what it tells is read off the card it leaves.
 use borrow.Author.Tests.{le-leb, lt-leb}
-use mathlib.Core.Path.{refl}
+use mathlib.Core.Path.{refl, sym, ◌∙◌}
 use native.Mathlib.Omega.{arith}
-use lib.Dec.{leb}
+use Rattle.std.proofs.lemmas.Result.{err_from_is_err_and}
 use Rattle.laws.proofs.Bytes.{get-bytes}
-use Rattle.write.proofs.Codes.{flawed, stale, goes_in, fine-now, did-same}
-use Rattle.write.specs.Plans.{Did}
-use Rattle.rules.specs.Write.{plan, stamp_on}
-use Rattle.batch.proofs.Carries.{stays, laid, not-laid}
+use Rattle.rules.specs.Write.{stamp_on}
+use Rattle.write.proofs.Codes.{unchecked, stale, goes_in, fine-now}
+use Rattle.batch.proofs.Carries.{laid}
 use Rattle.batch.proofs.enter.Goals as goal
-use Rattle.batch.proofs.enter.Goals.{After-insert-entered, Else-flaw-ne0}
+use Rattle.batch.proofs.enter.Goals.{In_ok-check}
 
-pub returns-then-flaw-ne0 : goal.returns-then-flaw-ne0
-returns-then-flaw-ne0 c =
-    let a = c.args in
-    stays a.head a.card.now _ _ a.known c.requires.0 c.requires.2 (flawed a.card.now a.e a.head c.requires.0 _ c.flaw_of-flaw.ensures c.if-flaw-ne0.true)
+pub returns-in_err-check : goal.returns-in_err-check
+returns-in_err-check c =
+    let p = err_from_is_err_and c.from_residual.result c.from_residual.ensures.1 in
+    let out = unchecked c.args.card.now c.args.e c.args.head c.requires.0 _ (sym c.check.ensures ∙ c.in_err-check.was) in
+    rw (p.1, p.2) (out, refl)
 
 pub returns-then-e-known : goal.returns-then-e-known
 returns-then-e-known c =
-    let a = c.args in
-    let k = c.requires.2.stamp in
-    stays a.head a.card.now _ 3 a.known c.requires.0 c.requires.2
-    (stale a.card.now a.e a.head c.requires.0 _ c.flaw_of-flaw.ensures c.if-flaw-ne0.false (leb a.e.stamp (stamp_on a.head a.card.now)) refl
-    (le-leb a.e.stamp (stamp_on a.head a.card.now) (omega (arith, k, c.if-e-known.true))))
+    let a = c.args in (
+      stale a.card.now a.e a.head c.requires.0 (sym c.check.ensures ∙ c.in_ok-check.was)
+          (le-leb a.e.stamp (stamp_on a.head a.card.now) (omega (arith, c.requires.2.stamp, c.if-e-known.true))),
+      refl,
+    )
 
-pub insert-entered-requires : goal.insert-entered-requires
-insert-entered-requires c =
+pub insert-requires : goal.insert-requires
+insert-requires c =
     let a = c.args in
     let k = c.requires.2 in
     record {
       head = c.requires.0;
-      fine = fine-now a.card.now a.e a.head c.requires.0 _ c.flaw_of-flaw.ensures c.if-flaw-ne0.false (leb a.e.stamp (stamp_on a.head a.card.now)) refl c.requires.1
-          (lt-leb a.e.stamp (stamp_on a.head a.card.now) (omega (arith, k.stamp, c.if-e-known.false)));
+      fine = fine-now a.card.now a.e a.head c.requires.0 (sym c.check.ensures ∙ c.in_ok-check.was) c.requires.1 (lt-leb a.e.stamp (stamp_on a.head a.card.now) (omega (arith, k.stamp, c.if-e-known.false)));
       used = k.used;
       root = k.root;
     }
 
--- what was laid down, or not, by the plan
-did : (q : After-insert-entered) → let a = q.args in
-    Did q.insert-entered.result a.head a.card.now q.insert-entered.new.card (plan a.card.now a.e)
-did q =
-    let a = q.args in
-    did-same _ a.head a.card.now _ _ _
-    (goes_in a.card.now a.e a.head q.requires.0 _ q.flaw_of-flaw.ensures q.if-flaw-ne0.false (leb a.e.stamp (stamp_on a.head a.card.now)) refl
-    (lt-leb a.e.stamp (stamp_on a.head a.card.now) (omega (arith, q.requires.2.stamp, q.if-e-known.false))))
-    q.insert-entered.ensures
-
-pub returns-then-accepted : goal.returns-then-accepted
-returns-then-accepted c =
+pub returns-in_err-entered : goal.returns-in_err-entered
+returns-in_err-entered c =
     let a = c.args in
-    let by = get-bytes a.card.now (λ i. omega (arith, (goal.at.returns-then-accepted c).Else-flaw-ne0.type_inv.card i)) in
-    laid a.head a.card.now c.requires.0 by a.e c.requires.1 a.known c.requires.2 _ _ (did (goal.at.returns-then-accepted c).After-insert-entered) (omega (arith, c.if-accepted.true))
+    let p = err_from_is_err_and c.from_residual-in_err-entered.result c.from_residual-in_err-entered.ensures.1 in
+    let yes = sym c.check.ensures ∙ c.in_ok-check.was in
+    let late = lt-leb a.e.stamp (stamp_on a.head a.card.now) (omega (arith, c.requires.2.stamp, c.if-e-known.false)) in
+    rw (p.1, p.2) (goes_in a.card.now a.e a.head c.requires.0 yes late ∙ c.in_err-entered.ensures.0, c.in_err-entered.ensures.1)
 
 pub returns : goal.returns
 returns c =
     let a = c.args in
-    let by = get-bytes a.card.now (λ i. omega (arith, (goal.at.returns c).Else-flaw-ne0.type_inv.card i)) in
-    not-laid a.head a.card.now c.requires.0 by a.e c.requires.1 a.known c.requires.2 _ _ (did (goal.at.returns c).After-insert-entered) c.if-accepted.false
+    let by = get-bytes a.card.now (λ i. omega (arith, (goal.at.returns c).In_ok-check.type_inv.card i)) in
+    let yes = sym c.check.ensures ∙ c.in_ok-check.was in
+    let late = lt-leb a.e.stamp (stamp_on a.head a.card.now) (omega (arith, c.requires.2.stamp, c.if-e-known.false)) in
+    let d = c.in_ok-entered.ensures in
+    laid a.head a.card.now c.requires.0 by a.e c.requires.1 c.in_ok-entered.entered _ (goes_in a.card.now a.e a.head c.requires.0 yes late ∙ d.0, d.1, d.2)

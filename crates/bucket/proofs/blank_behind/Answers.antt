@@ -5,4 +5,4 @@ use Rattle.bucket.proofs.blank_behind.Goals as goal
 
 pub returns : goal.returns
 returns c =
-    c.all_zero.ensures ∙ rest-blank c.args.n c.args.count c.args.i c.args.part.now c.requires.2 c.requires.0
+    c.all_zero.ensures ∙ rest-blank c.args.n c.args.count c.args.i c.args.part.now c.requires.1 c.requires.0

@@ -1,19 +1,19 @@
 -- `bucket::entry_at` reads the entry at a place.
 use mathlib.Core.Path.{◌≡◌, ap, sym, ◌∙◌}
-use Prim.Native.Nat.{suc, ◌-◌}
+use Prim.Native.Nat.{suc}
 use native.Mathlib.Omega.{arith}
-use Rattle.rules.specs.declared.Entry.{Entry}
-use Rattle.scan.specs.declared.Found.TheVariants.{Hit}
+use Rattle.std.specs.Prelude.{Some}
 use Rattle.bucket.specs.Places.{found_at}
 use Rattle.bucket.proofs.entry_at.Goals as goal
 
-pub returns-then-hit-eq0 : goal.returns-then-hit-eq0
+pub returns-in_err-i : goal.returns-in_err-i
 unfolding found_at
-returns-then-hit-eq0 c = rw c.if-hit-eq0.true
+returns-in_err-i c =
+    let none : c.args.place ≡ 0 = omega (arith, c.in_err-i.ensures) in
+    rw (c.from_residual.ensures, none)
 
 pub returns : goal.returns
 unfolding found_at
 returns c =
-    let a = c.args in
-    let k : a.hit ≡ suc (a.hit - 1) = omega (arith, c.if-hit-eq0.false) in
-    ap (λ (e : Entry). Hit e) c.fields_at-e.ensures ∙ ap (found_at a.part.now) (sym k)
+    let k : c.args.place ≡ suc c.in_ok-i.i = omega (arith, c.in_ok-i.ensures) in
+    ap Some c.fields_at.ensures ∙ ap (found_at c.args.part.now) (sym k)

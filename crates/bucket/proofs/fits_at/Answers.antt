@@ -1,18 +1,15 @@
 -- `bucket::fits_at`: the sector read holds an entry that fits, or none.
-use mathlib.Core.Path.{ap, sym, ◌∙◌}
+use mathlib.Core.Path.{ap, ◌∙◌}
 use Rattle.scan.specs.Back.{holds}
 use Rattle.scan.proofs.Back.{no-entry}
 use Rattle.bucket.specs.Places.{data_fits}
-use borrow.Enum.Refused.{opened}
 use Rattle.bucket.proofs.fits_at.Goals as goal
 
 pub returns-in_default : goal.returns-in_default
 returns-in_default c =
-    let a = c.args in
-    no-entry (data_fits a.header) _ (opened c.in_default.in_default-own.keys2) ∙ ap (holds (data_fits a.header)) c.at-s.ensures
+    let fits = data_fits c.args.header in
+    no-entry fits _ c.in_default.not-Held ∙ ap (holds fits) c.at.ensures
 
-pub returns : goal.returns
+pub returns-in-Held : goal.returns-in-Held
 unfolding holds
-returns c =
-    let a = c.args in
-    c.data_fits.ensures ∙ ap (holds (data_fits a.header)) (sym c.in-Held.is ∙ c.at-s.ensures)
+returns-in-Held c = c.data_fits.ensures ∙ ap (holds (data_fits c.args.header)) c.in-Held.ensures

@@ -1,61 +1,58 @@
 -- `climb::count` foretells what the write needs. What the levels left give from here is what all give from the start.
-use borrow.Author.Rules.{rules}
 use mathlib.Core.Path.{◌≡◌, refl, ap, sym, ◌∙◌}
 use mathlib.Core.List.{List, []}
 use Prim.Native.Nat.{ℕ}
 use native.Mathlib.Omega.{arith}
-use lib.ListN.{drop}
-use lib.ListN.{drop_of_length-le}
+use lib.ListN.{drop, drop_of_length-le}
 use Rattle.level.specs.Level.{sent_list}
 use Rattle.climb.specs.Levels.{tally, count_on, needs_of, fresh_over, is_open}
 use Rattle.climb.proofs.Counting.{read_at, ends-here, goes_on, count_none}
 use Rattle.climb.proofs.count.Goals as goal
 
-pub loop-i-init : goal.loop-i-init
-loop-i-init c = (search rules, search rules, search rules, c.requires.shape.2, c.requires.shape.1, refl)
+pub loop-b-init : goal.loop-b-init
+loop-b-init c = (omega arith, c.requires.read.1, c.requires.read.0, refl)
 
-pub used_in-u-requires : goal.used_in-u-requires
-used_in-u-requires c =
-    let a = c.args in
-    let l = c.loop-i in
-    (c.requires.shape.0, (read_at a.head a.card.now a.path.now l.i (search rules) l.invariant.4).0)
+pub used_in-used-requires : goal.used_in-used-requires
+used_in-used-requires c =
+    let card = c.args.card.now in
+    (read_at card.head card.bytes.now c.args.levels.now c.loop-b.b-index c.loop-b-test.true c.loop-b.invariant.2).0
 
-pub returns-then-u-k : goal.returns-then-u-k
+pub returns-then-used-sent_count : goal.returns-then-used-sent_count
 unfolding needs_of fresh_over is_open
-returns-then-u-k c =
-    let a = c.args in
-    let l = c.loop-i in
+returns-then-used-sent_count c =
+    let card = c.args.card.now in
+    let l = c.loop-b in
     ap needs_of
-    (ends-here a.head a.stamp a.card.now a.path.now l.i l.sent l.next _ _ _ c.requires.shape.0 l.invariant.4 l.invariant.5 (search rules)
-    c.used_in-u.ensures.0 c.sent_count-k.ensures.0 c.if-u-k.true)
+    (ends-here card.head c.args.stamp card.bytes.now c.args.levels.now l.b-index l.sent l.next _ _ _ card.shape l.invariant.2 l.invariant.3 c.loop-b-test.true
+    c.used_in-used.ensures.0 c.sent_count.ensures.0 c.if-used-sent_count.true)
 
-pub renewal-r-requires : goal.renewal-r-requires
-renewal-r-requires c =
-    let a = c.args in
-    let l = c.loop-i in record { shape = (c.requires.shape.0, (read_at a.head a.card.now a.path.now l.i (search rules) l.invariant.4).0, c.used_in-u.ensures.0); all_small = (l.invariant.3, omega (arith, l.invariant.1, l.invariant.2, c.requires.at_in_bounds)) }
+pub renewal-r-requires-clause-read : goal.renewal-r-requires-clause-read
+renewal-r-requires-clause-read c =
+    let card = c.args.card.now in
+    ((read_at card.head card.bytes.now c.args.levels.now c.loop-b.b-index c.loop-b-test.true c.loop-b.invariant.2).0, c.used_in-used.ensures.0)
 
-pub loop-i-preserved : goal.loop-i-preserved
-loop-i-preserved c =
-    let a = c.args in
-    let l = c.loop-i in
+pub renewal-r-requires-clause-small : goal.renewal-r-requires-clause-small
+renewal-r-requires-clause-small c = (c.loop-b.invariant.1, omega (arith, c.loop-b.invariant.0, c.loop-b-test.true, c.requires.bounds))
+
+pub loop-b-preserved : goal.loop-b-preserved
+loop-b-preserved c =
+    let card = c.args.card.now in
+    let l = c.loop-b in
     let on = c.renewal-r.ensures in
-    let u = c.used_in-u.ensures in (
-      search rules,
-      search rules,
-      omega (arith, l.invariant.2, on.most),
+    let used = c.used_in-used.ensures in (
+      omega (arith, l.invariant.0, on.most),
       on.small,
-      (read_at a.head a.card.now a.path.now l.i (search rules) l.invariant.4).1,
-      goes_on a.head a.stamp a.card.now a.path.now l.i l.sent l.next _ _ _ c.requires.shape.0 l.invariant.4 l.invariant.5 (search rules)
-          u.0 c.sent_count-k.ensures.0 (search rules) u.2 c.renewal-r.result on,
+      (read_at card.head card.bytes.now c.args.levels.now l.b-index c.loop-b-test.true l.invariant.2).1,
+      goes_on card.head c.args.stamp card.bytes.now c.args.levels.now l.b-index l.sent l.next _ _ _ card.shape l.invariant.2 l.invariant.3 c.loop-b-test.true
+          used.0 c.sent_count.ensures.0 (omega (arith, c.if-used-sent_count.false)) used.2 c.renewal-r.result on,
     )
 
 pub over-requires : goal.over-requires
-over-requires c =
-    let l = c.loop-i in omega (arith, l.invariant.1, l.invariant.2, c.requires.at_in_bounds)
+over-requires c = omega (arith, c.loop-b.invariant.0, c.loop-b.auto.b-index-end, c.requires.bounds)
 
 pub returns : goal.returns
 returns c =
-    let a = c.args in
-    let l = c.loop-i in
-    let none : drop l.i a.path.now ≡ [] = drop_of_length-le a.path.now {i = l.i} (search rules) in
-    c.over.ensures ∙ ap needs_of (sym (ap (λ (bs : List ℕ). count_on a.head a.stamp a.card.now bs (tally (sent_list l.sent) l.next)) none ∙ count_none a.head a.stamp a.card.now _) ∙ l.invariant.5)
+    let card = c.args.card.now in
+    let l = c.loop-b in
+    let none : drop l.b-index c.args.levels.now ≡ [] = drop_of_length-le c.args.levels.now {i = l.b-index} (omega (arith, c.loop-b-test.false)) in
+    c.over.ensures ∙ ap needs_of (sym (ap (λ (bs : List ℕ). count_on card.head c.args.stamp card.bytes.now bs (tally (sent_list l.sent) l.next)) none ∙ count_none card.head c.args.stamp card.bytes.now _) ∙ l.invariant.3)

@@ -9,12 +9,13 @@ use Rattle.climb.specs.Levels.{entries_on}
 use Rattle.climb.proofs.Reading.{reads}
 use Rattle.climb.proofs.used_in.Goals as goal
 
-pub bucket_part-part-requires : goal.bucket_part-part-requires
-bucket_part-part-requires c = let rd = reads c.args.head c.args.card.now c.args.b c.requires.0 c.requires.1 in record { shape = c.requires.0; le_b = (rd.one, rd.most) }
+pub bucket-requires : goal.bucket-requires
+bucket-requires c = let card = c.args.card.now in let rd = reads card.head card.bytes.now c.args.b card.shape c.requires in (rd.one, rd.most)
 
 pub returns : goal.returns
 returns c =
-    let rd = reads c.args.head c.args.card.now c.args.b c.requires.0 c.requires.1 in
-    let e : c.used.result ≡ length (entries_on c.args.head c.args.card.now c.args.b) =
-    c.used.ensures.1 ∙ ap (λ (l : List ℕ). used_of 0 l 0 c.args.head.m) c.bucket_part-part.ensures.0 ∙ rd.used in
-    (e, omega arith, omega (arith, c.used.ensures.0))
+    let card = c.args.card.now in
+    let rd = reads card.head card.bytes.now c.args.b card.shape c.requires in
+    let e : c.used.result ≡ length (entries_on card.head card.bytes.now c.args.b) =
+    c.used.ensures.1 ∙ ap (λ (l : List ℕ). used_of 0 l 0 card.head.m) c.bucket.ensures.0 ∙ rd.used in
+    (e, omega (arith, e, rd.held), omega (arith, c.used.ensures.0))

@@ -9,9 +9,6 @@ pub returns-then-len-ne0 : goal.returns-then-len-ne0
 unfolding reading_of
 returns-then-len-ne0 c = rw (journal-odd c.args.slice.now c.if-len-ne0.true)
 
-pub pass_over-requires : goal.pass_over-requires
-pass_over-requires c = omega (arith, c.if-len-ne0.false)
-
 pub returns : goal.returns
 returns c =
     let a = c.args in

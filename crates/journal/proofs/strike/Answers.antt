@@ -1,12 +1,7 @@
--- `journal::strike` equals the rule for every slice and number.
+-- A strike's numbers are those of a call.
 use native.Mathlib.Omega.{arith}
 use Rattle.laws.proofs.Entries.{strike-asks}
-use Rattle.rules.specs.Journal.{journal_strike}
 use Rattle.journal.proofs.strike.Goals as goal
 
 pub enter-requires : goal.enter-requires
-enter-requires c = let a = c.args in strike-asks a.bib a.at (omega arith) (omega arith)
-
-pub returns : goal.returns
-unfolding journal_strike
-returns c = c.enter.ensures
+enter-requires c = let a = c.args in rw c.strike.ensures (strike-asks a.bib a.at (omega arith) (omega arith))

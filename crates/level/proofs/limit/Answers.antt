@@ -2,8 +2,8 @@
 use Rattle.level.proofs.Turns.{limit-index, limit-data}
 use Rattle.level.proofs.limit.Goals as goal
 
-pub returns-then-part-eq3 : goal.returns-then-part-eq3
-returns-then-part-eq3 c = limit-index c.args.head c.args.part.now c.args.used c.requires.1 c.if-part-eq3.true
+pub returns-then-part : goal.returns-then-part
+returns-then-part c = limit-index c.args.head c.args.part.now c.args.used c.requires.1 c.if-part.true
 
-pub returns : goal.returns
-returns c = limit-data c.args.head c.args.part.now c.args.used c.requires.1 c.if-part-eq3.false
+pub returns-else-part : goal.returns-else-part
+returns-else-part c = limit-data c.args.head c.args.part.now c.args.used c.requires.1 c.if-part.false

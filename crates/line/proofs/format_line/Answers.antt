@@ -1,15 +1,14 @@
--- `line::format_line` reads a line of a format as the rules do: the call is the one that the four numbers make.
-use mathlib.Core.Path.{ap, sym, ◌∙◌}
+-- `line::format_line` reads a line of a format as the rules do.
+use mathlib.Core.Path.{refl}
 use Rattle.rules.specs.Calls.{format_call}
 use Rattle.rules.specs.Bench.{text, format_names}
-use Rattle.line.specs.Requests.{request_of}
-use Rattle.line.proofs.Requests.{called_by, four-of}
+use Rattle.line.proofs.Requests.{four-made}
 use Rattle.line.proofs.format_line.Goals as goal
 
-pub returns-in_default : goal.returns-in_default
-unfolding text format_names request_of called_by
-returns-in_default c = rw (four-of format_call _ ∙ ap (called_by format_call) (sym c.four_at-f.ensures), c.in_default.is)
+pub returns-in_err-buckets : goal.returns-in_err-buckets
+unfolding text format_names
+returns-in_err-buckets c = rw (c.from_residual.ensures, c.in_err-buckets.ensures)
 
 pub returns : goal.returns
-unfolding text format_names request_of called_by
-returns c = rw (four-of format_call _ ∙ ap (called_by format_call) (sym c.four_at-f.ensures), c.in-All.is)
+unfolding text format_names
+returns c = four-made format_names _ format_call _ refl c.in_ok-buckets.ensures

@@ -1,46 +1,27 @@
 -- `line::number` reads a number as the rules do.
-use mathlib.Core.Path.{sym, ◌∙◌}
-use native.Mathlib.Omega.{arith}
-use lib.ListN.{drop}
-use borrow.Author.Rules.{rules}
-use Rattle.line.specs.Fields.{piece_at, last_of}
-use Rattle.line.proofs.Digits.{digit-first, number-none, number-run, number-lead, number-zero}
+use mathlib.Core.Path.{◌≡◌, sym, ◌∙◌}
+use mathlib.Core.List.{[]}
+use Rattle.rules.specs.Bench.{digits}
+use borrow.Author.Tests.{eqb-true}
+use Rattle.line.proofs.Digits.{number-none, number-lead, number-run, digit-some, digit-none}
 use Rattle.line.proofs.number.Goals as goal
+use Rattle.line.proofs.number.Goals.{then-zero, else-zero}
 
-pub returns-then-not-digit_at : goal.returns-then-not-digit_at
-unfolding piece_at last_of
-returns-then-not-digit_at c =
-    let a = c.args in
-    (number-none (drop a.at a.line.now) (sym c.digit_at.ensures ∙ c.if-not-digit_at.true), search rules)
+pub returns-in_err-first : goal.returns-in_err-first
+returns-in_err-first c = rw c.from_residual.ensures (number-none _ c.in_err-first.ensures)
 
-pub bounds-line-at : goal.bounds-line-at
-bounds-line-at c =
-    let a = c.args in
-    (digit-first a.line.now a.at (sym c.digit_at.ensures ∙ c.if-not-digit_at.false)).0
+pub returns-then-leading_zero : goal.returns-then-leading_zero
+returns-then-leading_zero c =
+    elim c.if-zero.branch [
+      | then-zero w ↦ number-lead _ _ _ c.in_ok-first.ensures w.if-zero.true (digit-some _ _ w.digit-then-zero.ensures cc)
+      | else-zero w ↦ absurd (w.if-zero.false (eqb-true _ 0 (sym w.leading_zero-is ∙ c.if-leading_zero.true)))
+    ]
 
-pub returns-then-nonzero : goal.returns-then-nonzero
-returns-then-nonzero c =
-    let a = c.args in
-    let d = sym c.digit_at.ensures ∙ c.if-not-digit_at.false in
-    (c.run.ensures.0 ∙ number-run a.line.now a.at d c.if-nonzero.true, c.run.ensures.1)
-
-pub digit_at-requires-2 : goal.digit_at-requires-2
-digit_at-requires-2 c =
-    let a = c.args in
-    let near = (digit-first a.line.now a.at (sym c.digit_at.ensures ∙ c.if-not-digit_at.false)).0 in
-    omega arith
-
-pub returns-then-digit_at : goal.returns-then-digit_at
-unfolding piece_at last_of
-returns-then-digit_at c =
-    let a = c.args in
-    let d = sym c.digit_at.ensures ∙ c.if-not-digit_at.false in
-    (number-lead a.line.now a.at d c.if-nonzero.false (sym c.digit_at-2.ensures ∙ c.if-digit_at.true), search rules)
-
-pub returns : goal.returns
-unfolding piece_at last_of
-returns c =
-    let a = c.args in
-    let d = sym c.digit_at.ensures ∙ c.if-not-digit_at.false in
-    let near = (digit-first a.line.now a.at d).0 in
-    (number-zero a.line.now a.at d c.if-nonzero.false (sym c.digit_at-2.ensures ∙ c.if-digit_at.false), omega arith)
+pub returns-else-leading_zero : goal.returns-else-leading_zero
+returns-else-leading_zero c =
+    let alone : c.in_ok-first.first ≡ 0 → digits c.in_ok-first.rest.now ≡ [] =
+    elim c.if-zero.branch [
+      | then-zero w ↦ λ z. digit-none _ _ w.digit-then-zero.ensures cc
+      | else-zero w ↦ λ z. absurd (w.if-zero.false z)
+    ] in
+    rw (number-run _ _ _ c.in_ok-first.ensures alone) c.run.ensures

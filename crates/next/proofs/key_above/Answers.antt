@@ -6,12 +6,12 @@ use Rattle.next.proofs.key_above.Goals as goal
 -- the part has the bucket's sectors
 pub least_above-requires : goal.least_above-requires
 least_above-requires c =
-    let a = c.args in
-    let fits = bucket-fits a.head a.card.now a.b c.requires.shape.long c.requires.le_b.0 c.requires.le_b.1 in
-    (c.bucket_part-part.ensures.1, c.requires.shape.lim.m32, rw (c.bucket_part-part.ensures.0, part-sectors a.head a.card.now a.b fits) c.requires.le_b.2)
+    let card = c.args.card.now in
+    let fits = bucket-fits card.head card.bytes.now c.args.b card.shape.long c.requires.0 c.requires.1 in
+    (c.bucket.ensures.1, card.shape.lim.m32, rw (c.bucket.ensures.0, part-sectors card.head card.bytes.now c.args.b fits) c.requires.2)
 
 pub returns : goal.returns
 returns c =
-    let a = c.args in
-    let fits = bucket-fits a.head a.card.now a.b c.requires.shape.long c.requires.le_b.0 c.requires.le_b.1 in
-    rw (c.bucket_part-part.ensures.0, part-sectors a.head a.card.now a.b fits) at c.least_above.ensures
+    let card = c.args.card.now in
+    let fits = bucket-fits card.head card.bytes.now c.args.b card.shape.long c.requires.0 c.requires.1 in
+    rw (c.bucket.ensures.0, part-sectors card.head card.bytes.now c.args.b fits) at c.least_above.ensures

@@ -1,12 +1,10 @@
--- `reply::field` lays a name and its number down.
+-- `reply::field` puts a name and its number behind what the line has.
+use mathlib.Core.List.{append_assoc}
 use native.Mathlib.Omega.{arith}
-use Rattle.reply.proofs.Texts.{two-laid}
+use Rattle.reply.proofs.Decimals.{decimal_shown}
 use Rattle.reply.proofs.field.Goals as goal
 
-pub returns : goal.returns
-returns c =
-    let a = c.args in
-    let p = c.put-e.ensures in
-    let n = c.number.ensures in
-    let both = two-laid a.out.now _ _ a.name.now _ a.at _ _ (omega (arith, c.requires)) p.0 p.1 n.0 n.1 in
-    (both.0, both.1, omega (arith, p.1, n.2))
+pub returns-clause-bytes : goal.returns-clause-bytes
+returns-clause-bytes c =
+    rw (c.push_str-2.ensures.bytes, c.push_str.ensures.bytes, c.format-number.ensures.text, decimal_shown c.args.x (omega arith))
+    (append_assoc c.args.line.now.bytes c.args.name.now _)

@@ -1,73 +1,54 @@
 -- `rise::rise`, which calls itself: the levels left fall, and what the rule makes of the levels from here is what it makes of the rest from the parent.
+use mathlib.Core.Path.{◌≡◌, refl}
+use mathlib.Core.List.{List, [], ◌∷◌}
+use Prim.Native.Nat.{ℕ, ◌-◌, ◌+◌, ◌<◌}
 use native.Mathlib.Omega.{arith}
-use Prim.Native.Nat.{ℕ}
-use lib.ListN.{drop_of_length-le}
+use lib.ListN.{length, take, drop, get_or}
 use Rattle.climb.specs.Levels.{rise_on}
-use Rattle.climb.proofs.Rising.{none_left}
-use Rattle.climb.proofs.Counting.{read_at}
-use Rattle.rise.proofs.Turns.{Level, here-read, ends-in, fits, next-whole, next-ready}
+use Rattle.rise.proofs.Turns.{Level, front, ends-in, fits, next-whole, next-ready}
 use Rattle.rise.proofs.+rise.Goals as goal
-use Rattle.rise.proofs.+rise.Goals.{After-sent_count-k}
+use Rattle.rise.proofs.+rise.Goals.{After-sent_count}
 
 -- the level as it was found
-level : (t : ℕ) (q : After-sent_count-k t) →
+level : (t : ℕ) (q : After-sent_count t) →
     let a = q.args in
-    Level a.head a.stamp a.card.now a.path.now a.at a.p a.fresh q.used_in-used.result q.sent_count-k.result
+    let levels = a.levels.now in
+    Level a.head a.stamp a.card.now (get_or levels 0 0) (take (length levels - 1) (drop 1 levels)) a.p a.fresh q.used_in-used.result q.sent_count.result
 level t q =
     let ready = q.requires.ready in
     let u = q.used_in-used.ensures in
-    record { ready = ready.0; within = omega (arith, q.if-path-at.false); used = u.0; most = u.2; sent = q.sent_count-k.ensures.0; small = ready.1; cap = q.requires.card_bound }
+    let f = front q.args.levels.now q.in-len1-up.len_at_least in
+    record { ready = rw f at ready.0; used = u.0; most = u.2; sent = q.sent_count.ensures.0; small = ready.1; cap = rw f at q.requires.card_bound }
 
-pub new_root-requires : goal.new_root-requires
+none_left : (l : List ℕ) → length l < 1 → l ≡ []
+none_left [] h = refl
+none_left (b ∷ bs) h = absurd (omega arith)
+
+pub new_root-requires-clause-card_bound : goal.new_root-requires-clause-card_bound
 unfolding rise_on
-new_root-requires t c =
-    let a = c.args in
-    let end = drop_of_length-le a.path.now {i = a.at} c.if-path-at.true in
-    record { ready = (none_left c.requires.ready.0, c.requires.ready.1); card_bound = rw end at c.requires.card_bound }
+new_root-requires-clause-card_bound t c = rw (none_left c.args.levels.now c.in_default.len_below) at c.requires.card_bound
 
-pub returns-then-path-at : goal.returns-then-path-at
+pub returns-in_default : goal.returns-in_default
 unfolding rise_on
-returns-then-path-at t c =
-    let a = c.args in
-    rw (drop_of_length-le a.path.now {i = a.at} c.if-path-at.true) c.new_root.ensures
+returns-in_default t c = rw (none_left c.args.levels.now c.in_default.len_below) c.new_root.ensures
 
-pub used_in-used-requires : goal.used_in-used-requires
-used_in-used-requires t c =
-    let rd = c.requires.ready.0 in
-    (rd.shape, (read_at _ _ c.args.path.now c.args.at (omega (arith, c.if-path-at.false)) rd.reads).0)
+pub returns-then-used-sent_count : goal.returns-then-used-sent_count
+returns-then-used-sent_count t c =
+    rw (front c.args.levels.now c.in-len1-up.len_at_least, ends-in (level t (goal.at.returns-then-used-sent_count t c).After-sent_count) c.if-used-sent_count.true) c.write_in.ensures
 
-pub overflow_add-used : goal.overflow_add-used
-overflow_add-used t c =
-    let v = level t (goal.at.overflow_add-used t c).After-sent_count-k in
-    omega (arith, c.sent_count-k.ensures, v.ready.shape.lim.m32)
-
-pub write_in-requires : goal.write_in-requires
-write_in-requires t c =
-    let v = level t (goal.at.write_in-requires t c).After-sent_count-k in
-    record { shape = (v.ready.shape, here-read v, v.used, v.small); p_bound = omega (arith, c.if-used-k.true) }
-
-pub returns-then-used-k : goal.returns-then-used-k
-returns-then-used-k t c =
-    rw (ends-in (level t (goal.at.returns-then-used-k t c).After-sent_count-k) c.if-used-k.true) c.write_in.ensures
-
-pub rewrite-r-requires : goal.rewrite-r-requires
-rewrite-r-requires t c =
-    let v = level t (goal.at.rewrite-r-requires t c).After-sent_count-k in
-    record { ready = (none_left v.ready, here-read v, v.used, v.small); p_bound = fits v (omega (arith, c.if-used-k.false)) }
+pub rewrite-r-requires-clause-p_bound : goal.rewrite-r-requires-clause-p_bound
+rewrite-r-requires-clause-p_bound t c =
+    fits (level t (goal.at.rewrite-r-requires-clause-p_bound t c).After-sent_count) (omega (arith, c.if-used-sent_count.false))
 
 pub rise-requires : goal.rise-requires
 rise-requires t c =
-    let v = level t (goal.at.rise-requires t c).After-sent_count-k in
-    let w = c.rewrite-r.ensures in (
-      omega (arith, c.decreases),
-      (
-        (next-ready v (omega (arith, c.if-used-k.false)) w.hands_on w.card_after, w.hands_on.small, omega arith),
-        rw (← next-whole v (omega (arith, c.if-used-k.false)) w.hands_on w.card_after) v.cap,
-      ),
-    )
+    let v = level t (goal.at.rise-requires t c).After-sent_count in
+    let w = c.rewrite-r.ensures in
+    let gt : c.args.head.m < c.used_in-used.result + c.sent_count.result = omega (arith, c.if-used-sent_count.false) in
+    (omega (arith, c.decreases, c.in-len1-up.len_at_least), ((next-ready v gt w.hands_on w.card_after, w.hands_on.small), rw (← next-whole v gt w.hands_on w.card_after) v.cap))
 
 pub returns : goal.returns
 returns t c =
+    let v = level t (goal.at.returns t c).After-sent_count in
     let w = c.rewrite-r.ensures in
-    let v = level t (goal.at.returns t c).After-sent_count-k in
-    rw (next-whole v (omega (arith, c.if-used-k.false)) w.hands_on w.card_after) c.rise.ensures
+    rw (front c.args.levels.now c.in-len1-up.len_at_least, next-whole v (omega (arith, c.if-used-sent_count.false)) w.hands_on w.card_after) c.rise.ensures

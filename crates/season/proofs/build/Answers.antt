@@ -49,7 +49,7 @@ laid-at : (q : After-lay_records) → let a = q.args in
     (standing_at a.card.now a.at).records
 laid-at q =
     let a = q.args in
-    data-laid a.head a.at a.target.now _ _ _ _ _ _ q.write_head.ensures q.write_entry.ensures q.quota-q.ensures
+    data-laid a.head a.at a.target.now _ _ _ _ _ _ q.write_head.ensures (rw q.strike.ensures at q.write_entry.ensures) q.quota-q.ensures
     (records-again a.card.now a.at a.count q.requires.count_value.0) q.lay_records.ensures
 
 pub quota-q-requires : goal.quota-q-requires
@@ -67,7 +67,7 @@ write_head-requires c =
 pub write_entry-requires : goal.write_entry-requires
 write_entry-requires c =
     let f = front_at (goal.at.write_entry-requires c).Start in
-    (omega (arith, c.write_head.auto.card), omega arith)
+    rw c.strike.ensures (omega (arith, c.write_head.auto.card), (omega arith, omega arith))
 
 pub lay_records-requires : goal.lay_records-requires
 lay_records-requires c =
@@ -110,15 +110,15 @@ overflow_sub-next c =
     let f = fresh-some (quota o.args.head) (o.args.count + 1) in
     omega (arith, o.requires.count_value.2)
 
-pub root_entry-root-requires : goal.root_entry-root-requires
-root_entry-root-requires c = let o = (goal.at.root_entry-root-requires c).Start in omega (arith, o.requires.count_value.3, (shape_at o).lim.n4096)
+pub overflow_cast-next : goal.overflow_cast-next
+overflow_cast-next c = let o = (goal.at.overflow_cast-next c).Start in omega (arith, o.requires.count_value.3, (shape_at o).lim.n4096)
 
 pub write_entry-requires-2 : goal.write_entry-requires-2
 write_entry-requires-2 c =
     let o = (goal.at.write_entry-requires-2 c).Start in
     let f = front_at o in
-    let root = ap (λ (e : Entry). e.kind) c.root_entry-root.ensures in
-    let bare = ap (λ (e : Entry). e.status) c.root_entry-root.ensures in
+    let root = ap (λ (e : Entry). e.kind) c.root-root.ensures in
+    let bare = ap (λ (e : Entry). e.status) c.root-root.ensures in
     (omega (arith, (shape_at o).long, (records-shape (goal.at.write_entry-requires-2 c).After-lay_records (shape_at o)).long, c.tower.auto.target), (omega arith, omega arith))
 
 pub returns : goal.returns
@@ -129,5 +129,5 @@ returns c =
     let whole =
     built-is a.head a.at a.target.now (shape_at o) o.requires.head_value.2 (standing_at a.card.now a.at).records a.count _ _ _ _ o.requires.count_value.0 c.quota-q.ensures
     c.over-c.ensures (enough-at o) (laid-at records) c.tower.ensures in
-    c.write_entry-2.ensures ∙ ap (λ (e : Entry). put c.tower.new.target 1 (encode e)) c.root_entry-root.ensures
+    c.write_entry-2.ensures ∙ ap (λ (e : Entry). put c.tower.new.target 1 (encode e)) c.root-root.ensures
     ∙ ap (λ (t : List ℕ). put t 1 (encode (root_entry a.at (a.next - 1)))) whole

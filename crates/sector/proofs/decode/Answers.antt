@@ -1,8 +1,6 @@
 -- `sector::decode` meets its contract: what a sector is, on a card of n buckets.
-use native.Mathlib.Omega.{arith}
 use Rattle.scan.proofs.Words.{decode-words}
 use Rattle.sector.proofs.decode.Goals as goal
 
 pub returns : goal.returns
-returns c =
-    cc (decode-words c.args.n c.args.s.now c.requires (omega (arith, c.type_inv.s 0)))
+returns c = cc (decode-words c.args.n c.args.s.now c.told-s (c.fits-s 0))

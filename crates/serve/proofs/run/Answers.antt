@@ -3,5 +3,5 @@ use mathlib.Core.Path.{refl}
 use Rattle.session.proofs.Buffers.{blank-buffer}
 use Rattle.serve.proofs.run.Goals as goal
 
-pub serve-requires : goal.serve-requires
-serve-requires g c = (refl, blank-buffer 65536 refl, refl)
+pub invariant_of-bench : goal.invariant_of-bench
+invariant_of-bench g c = record { holds = blank-buffer 65536 refl }

@@ -1,5 +1,4 @@
 -- `survey::bound` is no less than the largest stamp: the larger of it and of what is left never was.
-use borrow.Author.Rules.{rules}
 use native.Mathlib.Omega.{arith}
 use Rattle.survey.proofs.Stamps.{field-turn, field_end}
 use Rattle.survey.proofs.bound.Goals as goal
@@ -7,10 +6,8 @@ use Rattle.survey.proofs.bound.Goals as goal
 pub loop-i-preserved : goal.loop-i-preserved
 loop-i-preserved c =
     let l = c.loop-i in
-    let more = c.later-top.ensures in
-    (search rules, field-turn c.args.card.now c.args.to l.i l.top _ _ _ (search rules) l.invariant.1 (rw c.bytes.ensures.0 at c.read_word-s.ensures) (omega arith) (omega arith))
+    let more = c.max-top.ensures in
+    field-turn c.args.card.now c.args.to l.i l.top c.read_word.result _ _ c.loop-i-test.true l.invariant (rw c.bytes.ensures at c.read_word.ensures) (omega (arith, more)) (omega (arith, more))
 
 pub returns : goal.returns
-returns c =
-    let l = c.loop-i in
-    field_end c.args.card.now c.args.to l.i l.top _ (search rules) l.invariant.1
+returns c = field_end c.args.card.now c.args.to c.loop-i.i c.loop-i.top _ (omega (arith, c.loop-i-test.false)) c.loop-i.invariant

@@ -1,11 +1,7 @@
 -- `survey::highest` goes from behind: what the buckets passed by leave is what all have.
 use mathlib.Core.Path.{◌≡◌}
-use Prim.Native.Nat.{◌≤◌}
 use Rattle.rules.specs.Write.{top_used}
 use Rattle.survey.proofs.highest.Given as goal
 
-abbrev pub invariant-loop-b : goal.invariant-loop-b
-invariant-loop-b l = (l.b ≤ l.last) × (top_used l.head l.card l.b ≡ top_used l.head l.card l.last)
-
-abbrev pub decreases-loop-b : goal.decreases-loop-b
-decreases-loop-b l = l.b
+abbrev pub invariant-loop-below : goal.invariant-loop-below
+invariant-loop-below l = top_used l.card.head l.card.bytes.now l.below ≡ top_used l.card.head l.card.bytes.now l.last

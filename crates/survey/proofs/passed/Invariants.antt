@@ -6,7 +6,4 @@ use Rattle.rules.specs.Write.{top_stamp}
 use Rattle.survey.proofs.passed.Given as goal
 
 abbrev pub invariant-loop-i : goal.invariant-loop-i
-invariant-loop-i l = (l.i ≤ l.to) × (l.over ≡ false → top_stamp l.card l.from (l.to - l.from) ≤ max l.before (top_stamp l.card l.i (l.to - l.i)))
-
-abbrev pub decreases-loop-i : goal.decreases-loop-i
-decreases-loop-i l = l.to - l.i
+invariant-loop-i l = l.over ≡ false → top_stamp l.card l.from (l.to - l.from) ≤ max l.before (top_stamp l.card l.i (l.to - l.i))

@@ -9,4 +9,4 @@ pub returns : goal.returns
 unfolding survey_of stamp_on
 returns c =
     let all = sym c.written-last.ensures.upper_bound.1 in
-    (c.largest-stamp.ensures ∙ ap (λ (s : Area). s.stamp) all, c.highest-used.ensures ∙ ap (λ (s : Area). s.used) all)
+    (c.largest.ensures ∙ ap (λ (s : Area). s.stamp) all, c.highest.ensures ∙ ap (λ (s : Area). s.used) all)

@@ -5,7 +5,4 @@ use Rattle.rules.specs.Write.{top_stamp}
 use Rattle.survey.proofs.top_stamp.Given as goal
 
 abbrev pub invariant-loop-i : goal.invariant-loop-i
-invariant-loop-i l = (l.from ≤ l.i) × (l.i ≤ l.to) × (l.top ≡ top_stamp l.card l.i (l.to - l.i))
-
-abbrev pub decreases-loop-i : goal.decreases-loop-i
-decreases-loop-i l = l.i
+invariant-loop-i l = (l.from ≤ l.i) × (l.top ≡ top_stamp l.card l.i (l.to - l.i))

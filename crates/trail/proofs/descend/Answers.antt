@@ -1,78 +1,81 @@
 -- `trail::descend` walks down and writes down what it meets. What is left of the walk, below what was met, gives what the whole gives.
-use borrow.Author.Rules.{rules}
-use mathlib.Core.Path.{◌≡◌}
+use mathlib.Core.Path.{◌≡◌, ap, ◌∙◌}
 use mathlib.Core.List.{List, []}
 use Prim.Native.Nat.{ℕ, ◌+◌, ◌-◌}
 use native.Mathlib.Nat.{sub-zero}
 use native.Mathlib.Omega.{arith}
 use lib.ListN.{length, drop, set, length-set, drop_of_length-le}
+use Rattle.std.specs.Prelude.{Ok}
+use Rattle.std.proofs.lemmas.Result.{err_from_is_err_and}
+use Rattle.scan.specs.declared.Way.TheVariants.{Down, End}
 use Rattle.scan.proofs.Parts.{down-inside}
 use Rattle.trail.specs.Trail.{track_on, track_scan}
-use Rattle.trail.proofs.Tracks.{lost-leads, came-leads, deep-goes, track-out, track-turn}
+use Rattle.trail.proofs.Tracks.{track-out, track-turn}
 use Rattle.trail.proofs.descend.Goals as goal
-use Rattle.trail.proofs.descend.Goals.{After-search-way}
+use Rattle.trail.proofs.descend.Goals.{After-search}
 
-pub loop-reads-init : goal.loop-reads-init
-loop-reads-init c =
+pub loop-above-init : goal.loop-above-init
+loop-above-init c =
     let path = c.args.path.now in
-    (search rules, search rules, search rules, search rules, search rules, rw (sub-zero, sub-zero, drop_of_length-le path {i = length path} (omega arith)))
+    (omega arith, c.requires.0, c.requires.1, rw (sub-zero, sub-zero, drop_of_length-le path {i = length path} (omega arith)))
 
-pub returns-then-reads-n : goal.returns-then-reads-n
-returns-then-reads-n c =
-    let a = c.args in
-    lost-leads _ _ a.head.n _ c.loop-reads.invariant.4 _ c.lost.ensures
-    (track-out a.head a.card.now a.key c.loop-reads.reads c.loop-reads.b c.loop-reads.header _ _ c.if-reads-n.true c.loop-reads.invariant.5)
+pub overflow_sub-start : goal.overflow_sub-start
+overflow_sub-start c = omega (arith, c.loop-above.invariant.0, c.if-above-places.false)
 
-pub returns-then-reads-places : goal.returns-then-reads-places
-returns-then-reads-places c =
-    deep-goes _ _ c.args.head.n _ c.loop-reads.invariant.4 _ _ (omega (arith, c.loop-reads.invariant.0, c.if-reads-n.false, c.if-reads-places.true))
+pub bounds-path-start : goal.bounds-path-start
+bounds-path-start c = omega (arith, c.loop-above.invariant.0, c.if-above-places.false, c.loop-above.auto.path)
+
+pub search-requires : goal.search-requires
+search-requires c = (c.loop-above.invariant.1, c.loop-above.invariant.2)
 
 -- the lent path, with the bucket written down
-abbrev met : After-search-way → List ℕ
-met q = set q.loop-reads.path (length q.args.path.now - (q.loop-reads.reads + 1)) q.loop-reads.b
+abbrev met : After-search → List ℕ
+met q = set q.loop-above.path (length q.args.path.now - (q.loop-above.above + 1)) q.loop-above.b
 
-as_lent : (q : After-search-way) → length (met q) ≡ length q.args.path.now
-as_lent q = simp length-set q.loop-reads.invariant.4
+as_lent : (q : After-search) → length (met q) ≡ length q.args.path.now
+as_lent q = simp length-set q.loop-above.auto.path
 
 -- what the search said of the whole walk
-turn_at : (q : After-search-way) →
+turn_at : (q : After-search) →
     let a = q.args in
-    let above = drop (length a.path.now - (q.loop-reads.reads + 1)) (met q) in
-    track_on q.search-way.result above (track_scan a.head a.card.now a.key (a.head.n - (q.loop-reads.reads + 1)) above)
-    ≡ track_scan a.head a.card.now a.key a.head.n [] a.root 0
+    let card = a.card.now in
+    let above = drop (length a.path.now - (q.loop-above.above + 1)) (met q) in
+    track_on q.search.result above (track_scan card.head card.bytes.now a.key (card.head.n - (q.loop-above.above + 1)) above)
+    ≡ track_scan card.head card.bytes.now a.key card.head.n [] a.root 0
 turn_at q =
-    let a = q.args in
-    let l = q.loop-reads in
-    track-turn a.head a.card.now a.key l.reads l.b l.header (length a.path.now) l.path _ _
-    (omega (arith, l.invariant.0, q.if-reads-n.false)) (omega (arith, l.invariant.1, q.if-reads-places.false)) l.invariant.4 q.search-way.ensures l.invariant.5
+    let card = q.args.card.now in
+    let l = q.loop-above in
+    track-turn card.head card.bytes.now q.args.key l.above l.b l.header (length q.args.path.now) l.path _ _
+    q.loop-above-test.true (omega (arith, l.invariant.0, q.if-above-places.false)) l.auto.path q.search.ensures l.invariant.3
 
-pub returns-in-Lost : goal.returns-in-Lost
+pub returns : goal.returns
+returns c =
+    let card = c.args.card.now in
+    let out = track-out card.head card.bytes.now c.args.key c.loop-above.above c.loop-above.b c.loop-above.header _ _ (omega (arith, c.loop-above-test.false, c.loop-above.auto.above-end)) c.loop-above.invariant.3 in
+    record { long = c.loop-above.auto.path; ends = out }
+
+pub returns-then-above-places : goal.returns-then-above-places
+returns-then-above-places c = record { long = c.loop-above.auto.path; ends = omega (arith, c.loop-above-test.true, c.if-above-places.true) }
+
+pub returns-in_err-e : goal.returns-in_err-e
 unfolding track_on
-returns-in-Lost c =
-    lost-leads _ _ c.args.head.n _ (as_lent (goal.at.returns-in-Lost c).After-search-way) _ c.lost-in-Lost.ensures (rw c.in-Lost.is at (turn_at (goal.at.returns-in-Lost c).After-search-way))
+returns-in_err-e c =
+    let q = (goal.at.returns-in_err-e c).After-search in
+    let p = err_from_is_err_and c.from_residual.result c.from_residual.ensures.1 in
+    rw (p.1, p.2) (record { long = as_lent q; ends = rw c.in_err-e.was at (turn_at q) })
 
-pub loop-reads-preserved : goal.loop-reads-preserved
+pub loop-above-preserved : goal.loop-above-preserved
 unfolding track_on
-loop-reads-preserved c =
-    let a = c.args in
-    let inside = down-inside a.head a.card.now a.key 4294967295 c.loop-reads.b c.loop-reads.header _ _ c.search-way.ensures c.in-Down.is in
-    (search rules, search rules, inside.0, inside.1, as_lent (goal.at.loop-reads-preserved c).After-search-way, rw c.in-Down.is at (turn_at (goal.at.loop-reads-preserved c).After-search-way))
+loop-above-preserved c =
+    let q = (goal.at.loop-above-preserved c).After-search in
+    let card = c.args.card.now in
+    let down : c.search.result ≡ Ok (Down c.in-Down.e) = c.in_ok-e.was ∙ ap Ok c.in-Down.is in
+    let inside = down-inside card.head card.bytes.now c.args.key 4294967295 c.loop-above.b c.loop-above.header _ _ c.search.ensures down in
+    (omega (arith, c.loop-above.invariant.0, c.if-above-places.false), inside.0, inside.1, rw down at (turn_at q))
 
-pub returns-in-Absent : goal.returns-in-Absent
+pub returns-in-End : goal.returns-in-End
 unfolding track_on
-returns-in-Absent c =
-    came-leads _ _ c.args.head.n _ (as_lent (goal.at.returns-in-Absent c).After-search-way) _ _ (omega arith) (rw c.in-Absent.is at (turn_at (goal.at.returns-in-Absent c).After-search-way))
-
-pub returns-in-Copy : goal.returns-in-Copy
-unfolding track_on
-returns-in-Copy c =
-    came-leads _ _ c.args.head.n _ (as_lent (goal.at.returns-in-Copy c).After-search-way) _ _ (omega arith) (rw c.in-Copy.is at (turn_at (goal.at.returns-in-Copy c).After-search-way))
-
-pub shape_of-path-in-Lost : goal.shape_of-path-in-Lost
-shape_of-path-in-Lost c = as_lent (goal.at.shape_of-path-in-Lost c).After-search-way
-
-pub shape_of-path-in-Absent : goal.shape_of-path-in-Absent
-shape_of-path-in-Absent c = as_lent (goal.at.shape_of-path-in-Absent c).After-search-way
-
-pub shape_of-path-in-Copy : goal.shape_of-path-in-Copy
-shape_of-path-in-Copy c = as_lent (goal.at.shape_of-path-in-Copy c).After-search-way
+returns-in-End c =
+    let q = (goal.at.returns-in-End c).After-search in
+    let end : c.search.result ≡ Ok (End c.in-End.copy) = c.in_ok-e.was ∙ ap Ok c.in-End.is in
+    record { long = as_lent q; ends = (omega arith, rw end at (turn_at q)) }

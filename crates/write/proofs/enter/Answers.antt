@@ -1,26 +1,33 @@
 -- `write::enter` follows the rule's plan for an entry.
-use mathlib.Core.Path.{◌≡◌, sym, ◌∙◌}
-use mathlib.Core.Option.{some}
-use Rattle.rules.specs.Layout.{head_of}
-use Rattle.walk.proofs.Walks.{broken-none, sound-some}
-use Rattle.laws.proofs.Follows.{refuses}
-use Rattle.write.proofs.Codes.{no-head, answer-by}
+use mathlib.Core.Path.{ap, sym, ◌∙◌}
+use Rattle.rules.specs.declared.refusal.Refusal.{Refusal}
+use Rattle.rules.specs.Answers.{refused}
+use Rattle.rules.specs.Refusals.{number}
+use Rattle.rules.specs.Write.{plan_answer, plan_card}
+use Rattle.write.proofs.Codes.{no-head, accepted, refused-by}
 use Rattle.write.proofs.enter.Goals as goal
-use Rattle.write.proofs.enter.Goals.{In-Sound}
 
--- the head that was read is the card's
-head-met : (q : In-Sound) → head_of q.args.card.now ≡ some q.in-Sound.head
-head-met q = sound-some _ _ (sym q.read_head-layout.ensures ∙ q.in-Sound.is)
+pub returns-in-Err-clause-value : goal.returns-in-Err-clause-value
+unfolding plan_answer
+returns-in-Err-clause-value c =
+    c.from.ensures ∙ ap (λ (r : Refusal). refused (number r)) c.in-Err.ensures.0 ∙ ap plan_answer (sym (no-head c.args.card.now c.args.e c.in-Err.ensures.1))
 
-pub returns-in_default : goal.returns-in_default
-returns-in_default c =
-    let a = c.args in
-    let none = broken-none _ (sym c.read_head-layout.ensures ∙ c.in_default.is) in
-    let f = refuses _ a.card.now _ 1 (no-head a.card.now a.e none) c.refusal.ensures in
-    record { value = f.answer; card_after = f.bytes }
+pub returns-in-Err-clause-card_after : goal.returns-in-Err-clause-card_after
+unfolding plan_card
+returns-in-Err-clause-card_after c = ap (plan_card c.args.card.now) (sym (no-head c.args.card.now c.args.e c.in-Err.ensures.1))
 
-pub enter_on-entered-requires : goal.enter_on-entered-requires
-enter_on-entered-requires c = (head-met (goal.at.enter_on-entered-requires c).In-Sound, c.requires)
+pub returns-in-Ok-enter_on-clause-value : goal.returns-in-Ok-enter_on-clause-value
+returns-in-Ok-enter_on-clause-value c =
+    c.end.ensures ∙ (accepted c.in-Ok.before.head c.args.card.now c.enter_on.new.card _ c.in-Ok-enter_on.field-0 c.in-Ok-enter_on.ensures).0
 
-pub returns : goal.returns
-returns c = let b = c.enter_on-entered.ensures in record { value = c.refusal-2.ensures ∙ answer-by _ _ b.code; card_after = b.bytes }
+pub returns-in-Ok-enter_on-clause-card_after : goal.returns-in-Ok-enter_on-clause-card_after
+returns-in-Ok-enter_on-clause-card_after c =
+    (accepted c.in-Ok.before.head c.args.card.now c.enter_on.new.card _ c.in-Ok-enter_on.field-0 c.in-Ok-enter_on.ensures).1
+
+pub returns-in-Err-enter_on-clause-value : goal.returns-in-Err-enter_on-clause-value
+returns-in-Err-enter_on-clause-value c =
+    c.from-in-Err-enter_on.ensures ∙ (refused-by c.in-Ok.before.head c.args.card.now c.enter_on.new.card _ _ c.in-Err-enter_on.ensures).0
+
+pub returns-in-Err-enter_on-clause-card_after : goal.returns-in-Err-enter_on-clause-card_after
+returns-in-Err-enter_on-clause-card_after c =
+    (refused-by c.in-Ok.before.head c.args.card.now c.enter_on.new.card _ _ c.in-Err-enter_on.ensures).1

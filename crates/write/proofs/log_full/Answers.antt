@@ -8,4 +8,5 @@ use Rattle.write.proofs.log_full.Goals as goal
 
 pub returns : goal.returns
 returns c =
-    log-none c.args.head c.args.card.now c.requires.1.0 _ c.requires.0 c.requires.1.1 (c.used-used.ensures.1 ∙ ap (λ (l : List ℕ). used_of 0 l 0 c.args.head.n) c.log_part.ensures.0)
+    let card = c.args.card.now in
+    log-none card.head card.bytes.now c.requires.0 _ card.shape c.requires.1 (c.used.ensures.1 ∙ ap (λ (l : List ℕ). used_of 0 l 0 card.head.n) c.log.ensures.0)

@@ -5,8 +5,8 @@ use Rattle.rules.specs.Write.{post}
 use Rattle.write.proofs.post.Goals as goal
 
 pub enter-requires : goal.enter-requires
-enter-requires c = let a = c.args in post-asks a.bib a.at a.status a.time (omega arith) (omega arith) (omega arith)
+enter-requires c = let a = c.args in rw c.post.ensures (post-asks a.bib a.at a.status a.time (omega arith) (omega arith) (omega arith))
 
 pub returns : goal.returns
 unfolding post
-returns c = c.enter.ensures
+returns c = rw (← c.post.ensures) c.enter.ensures

@@ -5,8 +5,8 @@ use Rattle.rules.specs.Write.{strike}
 use Rattle.write.proofs.strike.Goals as goal
 
 pub enter-requires : goal.enter-requires
-enter-requires c = let a = c.args in strike-asks a.bib a.at (omega arith) (omega arith)
+enter-requires c = let a = c.args in rw c.strike.ensures (strike-asks a.bib a.at (omega arith) (omega arith))
 
 pub returns : goal.returns
 unfolding strike
-returns c = c.enter.ensures
+returns c = rw (← c.strike.ensures) c.enter.ensures

@@ -6,4 +6,4 @@ use Rattle.next.proofs.asks.least_above.Goals as goal
 
 pub returns : goal.returns
 returns c =
-    c.lower.ensures ∙ ap (lower c.args.up) c.least-found.ensures ∙ index-least c.args.x c.args.t _ c.args.up c.requires.2
+    c.lower.ensures ∙ ap (lower c.args.up) c.least.ensures ∙ index-least c.args.x c.args.t _ c.args.up c.requires.2

@@ -1,41 +1,31 @@
 -- `next::asks::standing`: the bib that stands next above x is the one that stands next above k; x rises.
 use borrow.Author.Rules.{rules}
-use borrow.Author.Tests.{eq-eqb, ne_eqb}
 use mathlib.Core.Path.{refl, sym, ◌∙◌}
-use Prim.Native.Nat.{◌<◌}
 use native.Mathlib.Omega.{arith}
-use Rattle.rules.specs.Sector.{is_data, is_post}
+use Rattle.rules.specs.Sector.{is_data}
 use Rattle.scan.specs.Scan.{sectors}
 use Rattle.scan.proofs.Judged.{none-next, next-rises, post-next, strike-next}
-use borrow.Enum.Refused.{opened}
 use Rattle.next.proofs.asks.standing.Goals as goal
-use Rattle.next.proofs.asks.standing.Goals.{After-key_of-x}
 
-pub least-found-requires : goal.least-found-requires
-least-found-requires c = (c.requires.0, c.requires.1, (is_data, c.requires.2))
-
--- the key found is above the last
-rises : (q : After-key_of-x) → q.loop-e.x < q.key_of-x.result
-rises q =
-    rw q.key_of-x.ensures.0 (next-rises is_data (sectors q.args.n q.args.part.now 0 q.args.m) q.requires.2 q.loop-e.x q.args.t _ _ q.least-found.ensures q.in-Hit.is)
+pub least-requires : goal.least-requires
+least-requires c = (c.requires.0, c.requires.1, (is_data, c.requires.2))
 
 pub loop-e-smaller : goal.loop-e-smaller
-loop-e-smaller c = let up = rises (goal.at.loop-e-smaller c).After-key_of-x in omega arith
+loop-e-smaller c =
+    let up = next-rises is_data (sectors c.args.n c.args.part.now 0 c.args.m) c.requires.2 c.loop-e.x c.args.t _ _ c.least.ensures c.in-Some.is in
+    omega (arith, up, c.loop-e.invariant.0)
 
 pub loop-e-preserved : goal.loop-e-preserved
-unfolding is_post
 loop-e-preserved c =
-    let again = strike-next is_data (sectors c.args.n c.args.part.now 0 c.args.m) c.requires.2 c.loop-e.x c.args.t _ _ c.least-found.ensures c.in-Hit.is (ne_eqb _ _ c.if-posted.false) in
-    (c.key_of-x.ensures.1, rw c.key_of-x.ensures.0 (sym again ∙ c.loop-e.invariant.1))
+    let again = strike-next is_data (sectors c.args.n c.args.part.now 0 c.args.m) c.requires.2 c.loop-e.x c.args.t _ _ c.least.ensures c.in-Some.is (sym c.if-posted.ensures) in
+    (search rules, sym again ∙ c.loop-e.invariant.1)
 
-pub returns-in_default : goal.returns-in_default
-returns-in_default c =
-    none-next is_data (sectors c.args.n c.args.part.now 0 c.args.m) c.requires.2 c.loop-e.x c.args.t _ c.least-found.ensures (opened c.in_default.in_default-own.keys2) ∙ c.loop-e.invariant.1
+pub returns : goal.returns
+returns c = none-next is_data (sectors c.args.n c.args.part.now 0 c.args.m) c.requires.2 c.loop-e.x c.args.t _ c.least.ensures c.in_default.is ∙ c.loop-e.invariant.1
 
 pub returns-then-posted : goal.returns-then-posted
-unfolding is_post
 returns-then-posted c =
-    post-next is_data (sectors c.args.n c.args.part.now 0 c.args.m) c.requires.2 c.loop-e.x c.args.t _ _ c.least-found.ensures c.in-Hit.is (eq-eqb _ _ c.if-posted.true) ∙ c.loop-e.invariant.1
+    post-next is_data (sectors c.args.n c.args.part.now 0 c.args.m) c.requires.2 c.loop-e.x c.args.t _ _ c.least.ensures c.in-Some.is (sym c.if-posted.ensures) ∙ c.loop-e.invariant.1
 
 pub loop-e-init : goal.loop-e-init
 loop-e-init c = (search rules, refl)

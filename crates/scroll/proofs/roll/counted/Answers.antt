@@ -1,25 +1,32 @@
 -- `roll::counted` counts the records of a roll. Those counted and the roll that is left give what the whole roll gives.
+use mathlib.Core.Path.{ap, ◌∙◌}
+use Rattle.std.proofs.lemmas.Result.{err_from_is_err_and}
+use Rattle.scroll.specs.Records.{tally_from}
+use Rattle.scroll.proofs.Rolls.{count-refused, count-ended, count-found, count-full}
 use borrow.Author.Rules.{rules}
-use Rattle.scroll.proofs.Rolls.{count-start, count-stop, count-more, count-end}
 use Rattle.scroll.proofs.roll.counted.Goals as goal
 
-pub loop-i-init : goal.loop-i-init
-loop-i-init c = let a = c.args in (search rules, count-start a.card.now a.at a.places a.bib)
-
-pub returns-then-a-eq0 : goal.returns-then-a-eq0
-returns-then-a-eq0 c =
+pub returns-in_err-e-clause-value : goal.returns-in_err-e-clause-value
+returns-in_err-e-clause-value c =
     let a = c.args in
-    let l = c.loop-i in
-    (count-stop a.card.now a.at a.places l.i l.last _ c.next-a.ensures (search rules) _ l.invariant.1 (search rules), search rules)
+    let l = c.loop-count in
+    let p = err_from_is_err_and c.from_residual.result c.from_residual.ensures.1 in
+    ap tally_from p.1 ∙ rw p.2 (count-refused a.card.now a.at a.places l.count l.last _ c.following.ensures.answer _ l.invariant (search rules) _ c.in_err-e.was)
 
-pub loop-i-preserved : goal.loop-i-preserved
-loop-i-preserved c =
+pub returns-in_default-clause-value : goal.returns-in_default-clause-value
+returns-in_default-clause-value c =
     let a = c.args in
-    let l = c.loop-i in
-    (search rules, count-more a.card.now a.at a.places l.i l.last _ c.next-a.ensures (search rules) _ l.invariant.1 (search rules))
+    let l = c.loop-count in
+    count-ended a.card.now a.at a.places l.count l.last _ c.following.ensures.answer _ l.invariant (search rules)
 
-pub returns : goal.returns
-returns c =
+pub loop-count-preserved : goal.loop-count-preserved
+loop-count-preserved c =
     let a = c.args in
-    let l = c.loop-i in
-    (count-end a.card.now a.at a.places l.i l.last (search rules) _ l.invariant.1, search rules)
+    let l = c.loop-count in
+    count-found a.card.now a.at a.places l.count l.last _ c.following.ensures.answer _ l.invariant (search rules) c.in-Some.e (search rules) c.following.ensures.above
+
+pub returns-clause-value : goal.returns-clause-value
+returns-clause-value c =
+    let a = c.args in
+    let l = c.loop-count in
+    count-full a.card.now a.at a.places l.last _ (search rules)

@@ -1,54 +1,27 @@
 -- `storeys::lay_records` lays the records down. Those left, on the card as it is, give what all give on the card that came.
-use borrow.Author.Rules.{rules}
-use mathlib.Core.Path.{◌≡◌, refl}
-use Prim.Native.Nat.{◌+◌, ◌-◌}
+use mathlib.Core.Logic.{inl}
+use mathlib.Core.Path.{refl, ap, ◌∙◌}
 use native.Mathlib.Omega.{arith}
+use lib.ListN.{length}
 use Rattle.laws.proofs.Bytes.{get-bytes}
-use Rattle.scroll.proofs.Rolls.{record-narrow}
-use Rattle.season.proofs.Turns.{records-stop, records-more, records-end}
+use Rattle.scroll.specs.Left.{left}
+use Rattle.scroll.proofs.Rolls.{rolled-narrow, rolled-short}
 use Rattle.season.proofs.storeys.lay_records.Goals as goal
 
 pub loop-j-init : goal.loop-j-init
 loop-j-init c =
     let a = c.args in
-    let all : a.count - 0 ≡ a.count = omega arith in
-    (omega arith, refl, rw all refl)
-
-pub returns-then-a-eq0 : goal.returns-then-a-eq0
-returns-then-a-eq0 c =
-    let l = c.loop-j in
-    let a = c.args in
-    records-stop a.m a.q a.i a.card.now a.at a.count l.j l.last _ c.next-a.ensures (search rules) _ l.target l.invariant.2 (search rules)
-
-pub spot-sector-requires : goal.spot-sector-requires
-spot-sector-requires c =
-    let l = c.loop-j in
-    let r = c.requires.0 in
-    let k = r.lies (l.j + 1) (omega arith) in
-    (r.some, omega (arith, r.long))
-
-pub write_entry-requires : goal.write_entry-requires
-write_entry-requires c =
-    let e = c.spot-sector.ensures in
-    let l = c.loop-j in
-    let a = c.args in
-    let k = c.requires.0.lies (l.j + 1) (omega arith) in
-    let by = get-bytes a.card.now (λ i. omega (arith, c.type_inv.card i)) in (
-      omega (arith, l.invariant),
-      record-narrow a.card.now by a.at l.last _ _ c.next-a.ensures c.if-a-eq0.false c.record_of-e.ensures,
+    let by = get-bytes a.card.now (λ i. omega (arith, c.type_inv.card i)) in
+    let same = c.into_iter-j-iterator.ensures.into_iter_gives in
+    let made = c.enumerate-j-items.ensures in
+    let none = ap (λ s. s.count) same ∙ made.count in
+    let all = ap (λ s. left s.iter) same ∙ ap left made.source ∙ c.above.ensures in
+    let many = ap length all in
+    let short = rolled-short a.card.now a.at a.count 0 in (
+      (tt, tt, inl (omega (arith, c.requires.1))),
+      tt,
+      omega arith,
+      rw all (rolled-narrow a.card.now by a.at a.count 0),
+      refl,
+      rw (none, all) refl,
     )
-
-pub loop-j-preserved : goal.loop-j-preserved
-loop-j-preserved c =
-    let w = c.write_entry.ensures in
-    let e = c.spot-sector.ensures in
-    let p = c.record_of-e.ensures in
-    let l = c.loop-j in
-    let a = c.args in
-    (omega arith, search rules, records-more a.m a.q a.i a.card.now a.at a.count l.j l.last _ c.next-a.ensures (omega arith) _ l.target l.invariant.2 _ (rw (e, p) at w) (search rules))
-
-pub returns : goal.returns
-returns c =
-    let l = c.loop-j in
-    let a = c.args in
-    records-end a.m a.q a.i a.card.now a.at a.count l.j l.last (search rules) _ l.target l.invariant.2

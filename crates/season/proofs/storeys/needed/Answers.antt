@@ -3,7 +3,7 @@ use mathlib.Core.Path.{refl}
 use native.Mathlib.Omega.{arith}
 use Rattle.season.specs.Storeys.{over, fresh}
 use Rattle.season.proofs.Counts.{over-third, over-some, over-less}
-use Rattle.season.proofs.Turns.{left_end, left-more}
+use Rattle.season.proofs.Turns.{left-more}
 use Rattle.season.proofs.storeys.needed.Goals as goal
 
 pub overflow_add-next : goal.overflow_add-next
@@ -26,12 +26,6 @@ overflow_add-next-in-loop-q c =
     let l = c.loop-q in
     let t = over-third c.args.q l.c c.requires.0 in
     omega (arith, c.over-up.ensures, l.invariant)
-
-pub returns-then-up-le1 : goal.returns-then-up-le1
-returns-then-up-le1 c =
-    let e = c.over-up.ensures in
-    let l = c.loop-q in
-    rw e (left_end c.args.q l.next l.c _ c.requires.0 l.invariant.0 l.invariant.2 (omega arith))
 
 pub loop-q-smaller : goal.loop-q-smaller
 loop-q-smaller c =

@@ -1,4 +1,5 @@
 -- `storeys::pair_on` reads a bucket's pair from its header.
+use mathlib.Core.Path.{refl, ◌∙◌}
 use native.Mathlib.Omega.{arith}
 use Rattle.laws.proofs.Heads.{bucket-fits}
 use Rattle.season.specs.Storeys.{pair_on}
@@ -12,4 +13,4 @@ bytes-requires c =
 
 pub returns : goal.returns
 unfolding pair_on
-returns c = rw (c.read_word-key.ensures, c.bytes.ensures.0, c.first_sector-first.ensures)
+returns c = c.index.ensures ∙ rw (c.read_word-key.ensures, c.bytes.ensures, c.first_sector-first.ensures) refl

@@ -1,6 +1,6 @@
 -- `storeys::tower` builds the index levels. Those left, on the card as it is, give what all give on the card that came.
 use borrow.Author.Rules.{rules}
-use mathlib.Core.Path.{◌≡◌, refl, sym, ◌∙◌}
+use mathlib.Core.Path.{◌≡◌, sym, ◌∙◌}
 use Prim.Native.Nat.{◌+◌, ◌≤◌}
 use native.Mathlib.Omega.{arith}
 use Rattle.rules.specs.Layout.{base}
@@ -8,7 +8,7 @@ use Rattle.bucket.specs.Shapes.{Shape}
 use Rattle.season.specs.Storeys.{over, raised}
 use Rattle.season.proofs.Counts.{over-less, over-some}
 use Rattle.season.proofs.Rooms.{level-room}
-use Rattle.season.proofs.Turns.{rest-fits, rest_end, rest_more}
+use Rattle.season.proofs.Turns.{rest-fits, rest_more}
 use Rattle.season.proofs.storeys.tower.Goals as goal
 use Rattle.season.proofs.storeys.tower.Goals.{After-raise, At-loop-head}
 
@@ -24,10 +24,6 @@ made_at : (q : After-raise)
     → let l = q.loop-head in let a = q.args in
     q.raise.new.target ≡ raised a.head a.stamp a.q l.b (base a.head (l.b + l.c)) 0 l.c l.target
 made_at q = let e = q.first_sector-i.ensures in rw e at q.raise.ensures
-
-pub loop-head-init : goal.loop-head-init
-loop-head-init c =
-    (c.requires.3, c.requires.4, refl, record { f = c.args.count; enough = omega arith; fits = c.requires.5; gives = refl })
 
 pub overflow_add-fresh : goal.overflow_add-fresh
 overflow_add-fresh c =
@@ -57,14 +53,6 @@ pub over-up-requires : goal.over-up-requires
 over-up-requires c =
     let k = fits-at (goal.at.over-up-requires c).At-loop-head in
     (omega (arith, c.requires), omega (arith, c.requires, c.requires.0.lim.m32), omega (arith, c.requires.0.lim.n4096))
-
-pub returns-then-top : goal.returns-then-top
-returns-then-top c =
-    let up = c.over-up.ensures in
-    let made = made_at (goal.at.returns-then-top c).After-raise in
-    let l = c.loop-head in
-    let a = c.args in
-    rest_end a.head a.stamp a.q l.b l.c _ l.target c.requires.1 l.invariant.1 l.invariant.3 _ made (omega (arith, c.if-top.true))
 
 pub loop-head-smaller : goal.loop-head-smaller
 loop-head-smaller c =

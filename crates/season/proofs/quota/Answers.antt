@@ -1,8 +1,0 @@
--- `season::quota` is three quarters of a bucket.
-use mathlib.Core.Path.{refl}
-use Rattle.rules.specs.Season.{quota}
-use Rattle.season.proofs.quota.Goals as goal
-
-pub returns : goal.returns
-unfolding quota
-returns c = refl
