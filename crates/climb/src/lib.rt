@@ -149,35 +149,37 @@ fn write_own(card: &mut [u8], head: Head, fresh: usize, entries: &[Entry], limit
 }
 
 // Bucket b, which holds `used` entries, is rewritten with what was sent to it into fresh buckets. The hand lives here and not in the function over the path, whose frame stays small.
+#[inline(never)]
 pub fn rewrite(
     card: &mut [u8],
     head: Head,
     b: u32,
     used: usize,
-    p: Sent,
+    p: &Sent,
     fresh: usize,
     stamp: u32,
 ) -> Renewed
-    requires ready { Ready head card.old [] fresh × Read head card.old b × (used ≡ length (entries_on head card.old b)) × AllSmall (sent_list p) }
-    requires p_bound { fresh + need_of (limit_on head card.old b) (kept_on head stamp card.old b (sent_list p)) ≤ head.n + 1 }
-    ensures hands_on { HandsOn stamp (limit_on head card.old b) fresh (kept_on head stamp card.old b (sent_list p)) result }
-    ensures card_after { card.new ≡ own_card head (limit_on head card.old b) fresh (kept_on head stamp card.old b (sent_list p)) card.old }
+    requires ready { Ready head card.old [] fresh × Read head card.old b × (used ≡ length (entries_on head card.old b)) × AllSmall (sent_list p.now) }
+    requires p_bound { fresh + need_of (limit_on head card.old b) (kept_on head stamp card.old b (sent_list p.now)) ≤ head.n + 1 }
+    ensures hands_on { HandsOn stamp (limit_on head card.old b) fresh (kept_on head stamp card.old b (sent_list p.now)) result }
+    ensures card_after { card.new ≡ own_card head (limit_on head card.old b) fresh (kept_on head stamp card.old b (sent_list p.now)) card.old }
 {
     let before = Card { bytes: card, head };
-    let hand = kept_in(&before, b, used, p, stamp);
+    let hand = kept_in(&before, b, used, *p, stamp);
     let limit = limit_in(&before, b, used);
     write_own(card, head, fresh, hand.as_slice(), limit);
     sent_up(hand.as_slice(), limit, fresh, stamp)
 }
 
 // What was sent goes into the first blanks of bucket b.
-pub fn write_in(card: &mut [u8], head: Head, b: u32, used: usize, p: Sent)
-    requires shape { Shape head card.old × Read head card.old b × (used ≡ length (entries_on head card.old b)) × AllSmall (sent_list p) }
-    requires p_bound { used + length (sent_list p) ≤ head.m }
-    ensures { card.new ≡ into head b (sent_list p) card.old }
+#[inline(never)]
+pub fn write_in(card: &mut [u8], head: Head, b: u32, used: usize, p: &Sent)
+    requires shape { Shape head card.old × Read head card.old b × (used ≡ length (entries_on head card.old b)) × AllSmall (sent_list p.now) }
+    requires p_bound { used + length (sent_list p.now) ≤ head.m }
+    ensures { card.new ≡ into head b (sent_list p.now) card.old }
 {
     let at = first_sector(head, b as usize);
-    level::write_sent(card, at + used, p);
+    level::write_sent(card, at + used, *p);
 }
 
 // A new root's entry, at the first blank of the log.
@@ -194,13 +196,14 @@ fn write_log(card: &mut [u8], head: Head, root: u32, stamp: u32)
 }
 
 // The root was rewritten: its one bucket is the new root, or a further one over its two.
-pub fn new_root(card: &mut [u8], head: Head, p: Sent, fresh: usize, stamp: u32)
-    requires ready { Ready head card.old [] fresh × AllSmall (sent_list p) }
-    requires card_bound { (topped head stamp (risen (sent_list p) fresh card.old)).fresh ≤ head.n + 1 }
-    ensures { card.new ≡ (topped head stamp (risen (sent_list p) fresh card.old)).card }
+#[inline(never)]
+pub fn new_root(card: &mut [u8], head: Head, p: &Sent, fresh: usize, stamp: u32)
+    requires ready { Ready head card.old [] fresh × AllSmall (sent_list p.now) }
+    requires card_bound { (topped head stamp (risen (sent_list p.now) fresh card.old)).fresh ≤ head.n + 1 }
+    ensures { card.new ≡ (topped head stamp (risen (sent_list p.now) fresh card.old)).card }
 {
     if p.high.is_some() {
-        level::write_sent(card, first_sector(head, fresh), p);
+        level::write_sent(card, first_sector(head, fresh), *p);
         write_log(card, head, fresh as u32, stamp);
     } else {
         write_log(card, head, p.low.value, stamp);

@@ -10,21 +10,20 @@ use level::Sent;
 use rules::Head;
 
 // What was sent goes into the bucket of the lowest level left, or that bucket is rewritten and its pairs go on to the levels above. The call of itself comes last, and no hand lies in this frame.
-pub fn rise(card: &mut [u8], levels: &[u32], p: Sent, fresh: usize, head: Head, stamp: u32)
-    requires ready { Ready head card.old levels.now fresh × AllSmall (sent_list p) }
-    requires card_bound { (topped head stamp (rise_on head stamp levels.now (risen (sent_list p) fresh card.old))).fresh ≤ head.n + 1 }
-    ensures { card.new ≡ (topped head stamp (rise_on head stamp levels.now (risen (sent_list p) fresh card.old))).card }
+pub fn rise(card: &mut [u8], levels: &[u32], p: &Sent, fresh: usize, head: Head, stamp: u32)
+    requires ready { Ready head card.old levels.now fresh × AllSmall (sent_list p.now) }
+    requires card_bound { (topped head stamp (rise_on head stamp levels.now (risen (sent_list p.now) fresh card.old))).fresh ≤ head.n + 1 }
+    ensures { card.new ≡ (topped head stamp (rise_on head stamp levels.now (risen (sent_list p.now) fresh card.old))).card }
 {
     let [b, above @ ..] = levels else {
         climb::new_root(card, head, p, fresh, stamp);
         return;
     };
     let used = climb::used_in(&Card { bytes: card, head }, *b);
-    if used + level::sent_count(p) <= head.m {
+    if used + level::sent_count(*p) <= head.m {
         climb::write_in(card, head, *b, used, p);
         return;
     }
     let r = climb::rewrite(card, head, *b, used, p, fresh, stamp);
-    let sent = r.sent;
-    rise(card, above, sent, r.fresh, head, stamp);
+    rise(card, above, &r.sent, r.fresh, head, stamp);
 }

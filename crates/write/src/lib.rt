@@ -139,7 +139,7 @@ fn lay(card: &mut [u8], head: Head, task: Task, path: &[u32], v: Verdict) -> Ent
 {
     let e = task.entry;
     let fresh = task.used + 1;
-    rise::rise(card, &path[v.start..], sent_first(e), fresh, head, e.stamp);
+    rise::rise(card, &path[v.start..], &sent_first(e), fresh, head, e.stamp);
     Entered {
         used: v.needs.fresh - 1,
         root: root_after(v.needs, task.root),

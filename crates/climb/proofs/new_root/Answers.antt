@@ -13,16 +13,16 @@ use Rattle.climb.proofs.new_root.Goals as goal
 use Rattle.climb.proofs.new_root.Goals.{After-write_sent, Then-is_some}
 
 -- two pairs: there is a fresh bucket for them
-for-two : (q : Then-is_some) → let a = q.args in (a.fresh ≤ a.head.n) × (length (sent_list a.p) ≡ 2)
+for-two : (q : Then-is_some) → let a = q.args in (a.fresh ≤ a.head.n) × (length (sent_list a.p.now) ≡ 2)
 for-two q =
     let a = q.args in
-    let cap = rw (root-two a.head a.stamp a.p a.fresh a.card.now (sym q.is_some.ensures ∙ q.if-is_some.true)) at q.requires.card_bound in
-    (omega (arith, cap), two-sent a.p (sym q.is_some.ensures ∙ q.if-is_some.true))
+    let cap = rw (root-two a.head a.stamp a.p.now a.fresh a.card.now (sym q.is_some.ensures ∙ q.if-is_some.true)) at q.requires.card_bound in
+    (omega (arith, cap), two-sent a.p.now (sym q.is_some.ensures ∙ q.if-is_some.true))
 
 -- they are in it
 laid : (q : After-write_sent) →
     let a = q.args in
-    (a.fresh ≤ a.head.n) × (length (sent_list a.p) ≡ 2) → q.write_sent.new.card ≡ into a.head a.fresh (sent_list a.p) a.card.now
+    (a.fresh ≤ a.head.n) × (length (sent_list a.p.now) ≡ 2) → q.write_sent.new.card ≡ into a.head a.fresh (sent_list a.p.now) a.card.now
 laid q two =
     let rd = q.requires.ready.0 in
     q.write_sent.ensures
@@ -47,7 +47,7 @@ overflow_cast-fresh c =
 pub write_log-requires : goal.write_log-requires
 write_log-requires c =
     let a = c.args in
-    let filled = ready-into a.head a.card.now [] a.fresh (sent_list a.p) c.requires.ready.0 (for-two (goal.at.write_log-requires c).Then-is_some).0 in
+    let filled = ready-into a.head a.card.now [] a.fresh (sent_list a.p.now) c.requires.ready.0 (for-two (goal.at.write_log-requires c).Then-is_some).0 in
     rw (laid (goal.at.write_log-requires c).After-write_sent (for-two (goal.at.write_log-requires c).Then-is_some)) (filled.shape, filled.logs)
 
 pub write_log-requires-else-is_some : goal.write_log-requires-else-is_some
@@ -57,9 +57,9 @@ write_log-requires-else-is_some c =
 pub returns-then-is_some : goal.returns-then-is_some
 returns-then-is_some c =
     let a = c.args in
-    rw (root-two a.head a.stamp a.p a.fresh a.card.now (sym c.is_some.ensures ∙ c.if-is_some.true), ← laid (goal.at.returns-then-is_some c).After-write_sent (for-two (goal.at.returns-then-is_some c).Then-is_some)) c.write_log.ensures
+    rw (root-two a.head a.stamp a.p.now a.fresh a.card.now (sym c.is_some.ensures ∙ c.if-is_some.true), ← laid (goal.at.returns-then-is_some c).After-write_sent (for-two (goal.at.returns-then-is_some c).Then-is_some)) c.write_log.ensures
 
 pub returns-else-is_some : goal.returns-else-is_some
 returns-else-is_some c =
     let a = c.args in
-    rw (root-one a.head a.stamp a.p a.fresh a.card.now (sym c.is_some.ensures ∙ c.if-is_some.false)) c.write_log-else-is_some.ensures
+    rw (root-one a.head a.stamp a.p.now a.fresh a.card.now (sym c.is_some.ensures ∙ c.if-is_some.false)) c.write_log-else-is_some.ensures

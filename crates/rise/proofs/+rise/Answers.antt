@@ -13,7 +13,7 @@ use Rattle.rise.proofs.+rise.Goals.{After-sent_count}
 level : (t : ℕ) (q : After-sent_count t) →
     let a = q.args in
     let levels = a.levels.now in
-    Level a.head a.stamp a.card.now (get_or levels 0 0) (take (length levels - 1) (drop 1 levels)) a.p a.fresh q.used_in-used.result q.sent_count.result
+    Level a.head a.stamp a.card.now (get_or levels 0 0) (take (length levels - 1) (drop 1 levels)) a.p.now a.fresh q.used_in-used.result q.sent_count.result
 level t q =
     let ready = q.requires.ready in
     let u = q.used_in-used.ensures in
