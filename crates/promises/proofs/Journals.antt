@@ -217,7 +217,7 @@ unfolding run
 full-run slice i zero es q l j a b = absurd (omega arith)
 full-run slice i (suc c) es q l j a b =
     ⊎_elim
-    (λ (v : (decode 0 (sector_at slice i) ≡ Blank) × (es ≡ []) × (run 0 slice (suc i) c ≡ Some [])). let None = ap length v.1 in absurd (omega arith))
+    (λ (v : (decode 0 (sector_at slice i) ≡ Blank) × (es ≡ []) × (run 0 slice (suc i) c ≡ Some [])). let none = ap length v.1 in absurd (omega arith))
     (λ (v : (x : Entry) × (xs : List Entry) × (decode 0 (sector_at slice i) ≡ Held x) × (es ≡ x ∷ xs) × (run 0 slice (suc i) c ≡ Some xs)).
     let more = ap length v.3 in
     ⊎_elim
@@ -317,7 +317,7 @@ look-six bib t None z = omega arith
 look-six bib t (Some es) z =
     ⊎_elim
     (λ (b : eqb bib 0 ≡ true). let two : 2 ≡ 6 = rw b at z in omega arith)
-    (λ (b : eqb bib 0 ≡ false). let None : (sheet bib 0 (stands_in t bib es)).code ≡ 6 = rw b at z in omega (arith, None, sheet-code bib (stands_in t bib es)))
+    (λ (b : eqb bib 0 ≡ false). let none : (sheet bib 0 (stands_in t bib es)).code ≡ 6 = rw b at z in omega (arith, none, sheet-code bib (stands_in t bib es)))
     (bool_cases (eqb bib 0))
 
 next-six : (k t : ℕ) (o : Option (List Entry)) → (journal_next_in k t o).code ≡ 6 → ⊥
