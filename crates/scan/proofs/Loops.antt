@@ -45,6 +45,14 @@ pub sectors-turn : {A : Type 0} (g : List Sector → A) (n m i : ℕ) (b : List 
     → s ≡ decode n (sector_at b i) → g (sectors n b i (m - i)) ≡ w → g (s ∷ sectors n b (i + 1) (m - (i + 1))) ≡ w
 sectors-turn g n m i b s w h d inv = rw (sectors-step n m i b h, ← d) at inv
 
+-- neither an entry nor blank: damage, whatever comes behind it
+pub damaged-at : (ok : Entry → Bool) (pick : Option Entry → Entry → Option Entry) (best : Option Entry) (s : Sector) (l : List Sector)
+    → ((e : Entry) → s ≡ Held e → ⊥) → (s ≡ Blank → ⊥) → damaged ≡ scan_in ok pick (s ∷ l) best
+unfolding scan_in
+damaged-at ok pick best Blank l p q = absurd (q refl)
+damaged-at ok pick best (Held e) l p q = absurd (p e refl)
+damaged-at ok pick best Damaged l p q = refl
+
 -- the header, read before the loop
 first-other-kind : (k x t : ℕ) (s : Sector) (l : List Sector) → ((e : Entry) → s ≡ Held e → ⊥) → damaged ≡ search k x t (s ∷ l)
 unfolding search
