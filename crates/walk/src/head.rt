@@ -1,7 +1,7 @@
 // The card's head, read and judged.
 ghost use Rattle.std.specs.Prelude.{◌≡◌, ◌≤◌, eqb, length};
 ghost use Rattle.rules.specs.Plain.{◌&◌, within};
-ghost use Rattle.rules.specs.Layout.{limits, size_of, head_fields, head_in, head_of};
+ghost use Rattle.rules.specs.Layout.{limits, size_of, head_fields, head_in, head_of, beginning};
 ghost use Rattle.walk.specs.Heads.{Reads};
 
 use bucket::Card;
@@ -64,6 +64,14 @@ fn head_in(s: &[u8], len: usize) -> Option<Head>
         return Some(h);
     }
     None
+}
+
+// The stamp that a card of these bytes begins with, whether or not its head is sound.
+pub fn beginning(bytes: &[u8]) -> u32
+    requires { 16 ≤ length bytes.now }
+    ensures { result ≡ beginning bytes.now }
+{
+    sector::read_word(sector::bytes(bytes, 0), 8)
 }
 
 // The card of these bytes.
