@@ -109,10 +109,10 @@ module _ (k x t n m : ℕ) (b : List ℕ) (s : Sector) (four : 4 ≤ m) (d : s �
 
 -- the log's part has the log's sectors
 pub log-found : (h : Head) (card part : List ℕ) (t : ℕ) (r : Found) → 16 * (1 + h.n) ≤ length card → part ≡ log_of h card
-    → r ≡ scan_in is_root (pick_root t) (sectors h.n part 0 h.n) None → root_in r ≡ search_log t (sectors h.n card 1 h.n)
+    → r ≡ scan_in is_root (pick_root t) (sectors h.n part 0 h.n) None → r ≡ search_log t (sectors h.n card 1 h.n)
 unfolding log_of search_log
 log-found h card part t r long at-log found =
-    ap root_in (rw at-log at found) ∙ ap (λ (l : List Sector). root_in (scan_in is_root (pick_root t) l None)) (sectors-part h.n card 1 h.n 0 h.n long (omega arith))
+    (rw at-log at found) ∙ ap (λ (l : List Sector). scan_in is_root (pick_root t) l None) (sectors-part h.n card 1 h.n 0 h.n long (omega arith))
 
 -- a log without a root entry is damage
 pub root-or : (r : Option Entry) → ok_or r (record {}) ≡ root_in (Ok r)

@@ -4,7 +4,7 @@
 ghost use Rattle.std.specs.Prelude.{◌≡◌, ◌+◌, ◌-◌, ◌*◌, ◌≤◌, ◌<◌, length, drop, true, false, None, MatchResult};
 ghost use Rattle.rules.specs.Layout.{base, beginning};
 ghost use Rattle.rules.specs.Sector.{is_root, decode, sector_at};
-ghost use Rattle.scan.specs.Scan.{sectors, all_blank, scan_in, pick, pick_root, search, search_log};
+ghost use Rattle.scan.specs.Scan.{sectors, all_blank, scan_in, pick, pick_root, search, root_in, search_log};
 ghost use Rattle.scan.specs.Back.{last_first, written, holds, sound};
 ghost use Rattle.scan.specs.Look.{part_of, log_of, search_at};
 ghost use Rattle.bucket.specs.Places.{found_at, data_fits, index_fits};
@@ -74,11 +74,18 @@ impl<'a> Card<'a> {
         search_part(self.bucket(b), self.head.n, self.head.m, header, key, stamp)
     }
 
-    // The last root entry of the log stamped `stamp` or earlier.
-    pub fn root_at(&self, stamp: u32) -> Result<Entry, Damage>
+    // The last root entry of the log stamped `stamp` or earlier, none where no entry is.
+    pub fn find_root(&self, stamp: u32) -> Found
         ensures { result ≡ search_log stamp (sectors self.now.head.n self.now.bytes.now 1 self.now.head.n) }
     {
-        scan_log(self.log(), self.head.n, self.head.n, stamp)?.ok_or(Damage)
+        scan_log(self.log(), self.head.n, self.head.n, stamp)
+    }
+
+    // The root entry that a walk as of `stamp` starts from: a log without one is damage to it.
+    pub fn root_at(&self, stamp: u32) -> Result<Entry, Damage>
+        ensures { result ≡ root_in (search_log stamp (sectors self.now.head.n self.now.bytes.now 1 self.now.head.n)) }
+    {
+        self.find_root(stamp)?.ok_or(Damage)
     }
 }
 

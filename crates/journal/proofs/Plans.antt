@@ -134,7 +134,7 @@ pub look-broken : (slice : List ℕ) (bib t : ℕ) → journal slice ≡ None �
 unfolding journal_look journal_look_in
 look-broken slice bib t q = rw q
 
-told-sheet : (bib : ℕ) (o : Option Entry) → told bib 0 o ≡ sheet bib 0 (standing o)
+told-sheet : (bib : ℕ) (o : Option Entry) → told bib 0 (Ok o) ≡ sheet bib 0 (standing o)
 unfolding told standing
 told-sheet bib None = refl
 told-sheet bib (Some e) = refl
@@ -144,6 +144,6 @@ module _ (slice : List ℕ) (bib t : ℕ) (es : List Entry) (q : journal slice �
   unfolding journal_look journal_look_in
   look-zero z = rw (q, eq-eqb bib 0 z)
 
-  pub look-told : (bib ≡ 0 → ⊥) → (p : Pass) → p ≡ pass_of bib t es → told bib 0 p.copy ≡ journal_look slice bib t
+  pub look-told : (bib ≡ 0 → ⊥) → (p : Pass) → p ≡ pass_of bib t es → told bib 0 (Ok p.copy) ≡ journal_look slice bib t
   unfolding journal_look journal_look_in stands_in pass_of
   look-told n p is = rw (is, q, ne_eqb bib 0 n) (told-sheet bib (copy_of bib (left t es)))

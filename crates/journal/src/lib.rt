@@ -95,7 +95,7 @@ fn looked(slice: &[u8], bib: u32, at: u32) -> Result<Answer, Refusal>
     if bib == 0 {
         return Err(Refusal::NoBib);
     }
-    Ok(walk::tell(bib, 0, pass.copy))
+    Ok(walk::tell(bib, 0, Ok(pass.copy)))
 }
 
 // What stands for the bib as of `at`.

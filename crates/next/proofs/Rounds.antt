@@ -14,7 +14,7 @@ use Rattle.rules.specs.Layout.{head_of, beginning}
 use Rattle.rules.specs.Next.{next_in, next}
 use Rattle.scan.specs.declared.Leg.{Leg}
 use Rattle.scan.specs.declared.Leg.TheVariants.{Over}
-use Rattle.scan.specs.Scan.{sectors, search_log}
+use Rattle.scan.specs.Scan.{sectors, root_in, search_log}
 use Rattle.scan.specs.Next.{leg_scan, leg_from, leg, after, rounds, next_scan_in, next_scan}
 use Rattle.scan.proofs.Nexts.{next-scan}
 use Rattle.scan.proofs.Parts.{over-above}
@@ -31,7 +31,7 @@ pub round-rises : (h : Head) (card : List ℕ) (k t x : ℕ) (l : Result Leg Dam
 round-rises h card k t x l e walked q = over-above h card k t x e (sym walked ∙ q)
 
 -- the walk from the root that was found
-pub leg-root : (h : Head) (card : List ℕ) (k t x : ℕ) (root : Entry) (l : Result Leg Damage) → search_log t (sectors h.n card 1 h.n) ≡ Ok root
+pub leg-root : (h : Head) (card : List ℕ) (k t x : ℕ) (root : Entry) (l : Result Leg Damage) → root_in (search_log t (sectors h.n card 1 h.n)) ≡ Ok root
     → l ≡ leg_scan h card k x t h.n None root.value 0 → l ≡ leg h card k t x
 unfolding leg leg_from
 leg-root h card k t x root l found walked = rw found walked
@@ -49,7 +49,7 @@ module _ (card : List ℕ) (k t : ℕ) (h : Head) (q : head_of card ≡ Some h) 
   unfolding next_scan next_scan_in
   next-rounds = rw (q, le-ltb t (beginning card) le) at (next-scan card k t)
 
-  pub next-lost : (d : Damage) → search_log t (sectors h.n card 1 h.n) ≡ Err d → refused 4 ≡ next card k t
+  pub next-lost : (d : Damage) → root_in (search_log t (sectors h.n card 1 h.n)) ≡ Err d → refused 4 ≡ next card k t
   unfolding leg leg_from after
   next-lost d found =
       rw found at (round-turn h card k t k 4294967296 (leg h card k t k) (next card k t) refl (omega arith) next-rounds)

@@ -33,7 +33,7 @@ pub fn least_above(
     requires { (length part.now ≡ 16 * m) × (m ≤ 32) × (runs is_index (sectors n part.now 0 m) ≡ true) }
     ensures { result ≡ weigh (pick_up x t) (sectors n part.now 0 m) up }
 {
-    picks::lower(up, least(part, n, m, x, t))
+    picks::nearer(up, least(part, n, m, x, t))
 }
 
 // The smallest standing bib above k of a data bucket: the least bib above k if its last copy is a post, else that above it.

@@ -5,7 +5,7 @@ ghost use Rattle.std.specs.Prelude.{◌≡◌, ◌≤◌, true, None, Ok};
 ghost use Rattle.rules.specs.Sector.{is_index, is_data};
 ghost use Rattle.rules.specs.Answers.{answer};
 ghost use Rattle.rules.specs.Next.{next};
-ghost use Rattle.scan.specs.Scan.{sectors, search_log};
+ghost use Rattle.scan.specs.Scan.{sectors, root_in, search_log};
 ghost use Rattle.scan.specs.Next.{pick_up, weigh, runs, stand_in, sectors_of, leg_of, leg_scan, rounds};
 ghost use Rattle.next.specs.Found.{told, Above};
 
@@ -83,7 +83,7 @@ fn told(found: Result<Option<Entry>, Refusal>) -> Answer
 
 // Walk after walk, each to the least index key above the last, until one gives a bib or no key. The log is read once, before.
 fn walk_on(card: &Card, root: Entry, k: u32, t: u32) -> Result<Option<Entry>, Refusal>
-    requires { search_log t (sectors card.now.head.n card.now.bytes.now 1 card.now.head.n) ≡ Ok root }
+    requires { root_in (search_log t (sectors card.now.head.n card.now.bytes.now 1 card.now.head.n)) ≡ Ok root }
     ensures answer { told result ≡ rounds card.now.head card.now.bytes.now k t 4294967296 k }
     ensures above { Above k result }
 {

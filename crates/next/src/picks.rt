@@ -1,14 +1,23 @@
 // Next's decisions, on an entry at a time.
 ghost use Rattle.std.specs.Prelude.{◌≡◌, ◌≤◌, ◌<◌};
-ghost use Rattle.scan.specs.Next.{lower};
+ghost use Rattle.scan.specs.Next.{nearer, lower};
 ghost use Rattle.next.specs.Ranks.{rank_above};
 
 use rules::Entry;
+use scan::Found;
 
-// The one with the lesser key of two that were found, of one key the second.
-#[tactic(auto, unfolding(scan::specs::Next::lower, scan::specs::Next::under))]
-pub fn lower(up: Option<Entry>, found: Option<Entry>) -> Option<Entry>
+// The one with the lesser key of two that two scans found, of one key the second; damage in either is damage.
+#[tactic(auto, unfolding(scan::specs::Next::lower))]
+pub fn lower(up: Found, found: Found) -> Found
     ensures { result ≡ lower up found }
+{
+    Ok(nearer(up?, found?))
+}
+
+// The same of two entries that may be there.
+#[tactic(auto, unfolding(scan::specs::Next::nearer, scan::specs::Next::under))]
+pub fn nearer(up: Option<Entry>, found: Option<Entry>) -> Option<Entry>
+    ensures { result ≡ nearer up found }
 {
     match (up, found) {
         (Some(o), Some(e)) if o.key < e.key => up,

@@ -27,7 +27,7 @@ use Rattle.scan.specs.declared.Way.{Way}
 use Rattle.scan.specs.declared.Way.TheVariants.{Down, End}
 use Rattle.scan.specs.Scan.{Found, damaged, sectors, all_blank, scan_in, pick, way_of, search}
 use Rattle.scan.specs.Look.{search_at}
-use Rattle.scan.specs.Next.{under, above, above_at, pick_up, weigh, runs, lower, stand_in, sectors_of}
+use Rattle.scan.specs.Next.{under, above, above_at, pick_up, weigh, runs, nearer, lower, stand_in, sectors_of}
 use Rattle.scan.proofs.Runs.{run_of, blank-run, fold, fold-snoc}
 use Rattle.scan.proofs.Mins.{above_in, up_step, weigh-run, stand-run, stand-above}
 use Rattle.scan.proofs.Least.{least-over, stand-none, least-stands}
@@ -179,12 +179,12 @@ pub data-weigh : (h : Head) (card : List ℕ) (x t b k : ℕ) (up : Option Entry
 data-weigh h card x t b k up s = data-passed x t (sectors_of h card b) up (at-says h card x t b k false s)
 
 -- of three the least, the later of one key
-lower-under : (a f : Option Entry) (e : Entry) → under (lower a f) e ≡ lower a (under f e)
-unfolding lower under
-lower-under None None e = refl
-lower-under None (Some o) e = ⊎_elim (λ (b : leb e.key o.key ≡ true). rw b) (λ (b : leb e.key o.key ≡ false). rw b) (bool_cases (leb e.key o.key))
-lower-under (Some a) None e = refl
-lower-under (Some a) (Some o) e =
+nearer-under : (a f : Option Entry) (e : Entry) → under (nearer a f) e ≡ nearer a (under f e)
+unfolding nearer under
+nearer-under None None e = refl
+nearer-under None (Some o) e = ⊎_elim (λ (b : leb e.key o.key ≡ true). rw b) (λ (b : leb e.key o.key ≡ false). rw b) (bool_cases (leb e.key o.key))
+nearer-under (Some a) None e = refl
+nearer-under (Some a) (Some o) e =
     ⊎_elim
     (λ (oa : o.key ≤ a.key).
     ⊎_elim (λ (eo : e.key ≤ o.key). rw (le-leb o.key a.key oa, le-leb e.key o.key eo, le-leb e.key a.key (omega arith)))
@@ -194,26 +194,26 @@ lower-under (Some a) (Some o) e =
     (λ (oe : o.key < e.key). rw (lt-leb o.key a.key ao, lt-leb e.key o.key oe, lt-leb e.key a.key (omega arith), lt-leb o.key a.key ao)) (le-or-lt e.key o.key))
     (le-or-lt o.key a.key)
 
-lower-above : (x t : ℕ) (a f : Option Entry) (e : Entry) → above_at x t (lower a f) e ≡ lower a (above_at x t f e)
+nearer-above : (x t : ℕ) (a f : Option Entry) (e : Entry) → above_at x t (nearer a f) e ≡ nearer a (above_at x t f e)
 unfolding above_at above
-lower-above x t a f e = go (leb e.stamp t) (ltb x e.key)
+nearer-above x t a f e = go (leb e.stamp t) (ltb x e.key)
   where
-    go : (s k : Bool) → if s (if k (under (lower a f) e) (lower a f)) (lower a f) ≡ lower a (if s (if k (under f e) f) f)
-    go true true = lower-under a f e
+    go : (s k : Bool) → if s (if k (under (nearer a f) e) (nearer a f)) (nearer a f) ≡ nearer a (if s (if k (under f e) f) f)
+    go true true = nearer-under a f e
     go true false = refl
     go false k = refl
 
-lower-weigh : (x t : ℕ) (ss : List Sector) (a f : Option Entry) → weigh (above_at x t) ss (lower a f) ≡ lower a (weigh (above_at x t) ss f)
+nearer-weigh : (x t : ℕ) (ss : List Sector) (a f : Option Entry) → weigh (above_at x t) ss (nearer a f) ≡ nearer a (weigh (above_at x t) ss f)
 unfolding weigh
-lower-weigh x t [] a f = refl
-lower-weigh x t (Blank ∷ ss) a f = refl
-lower-weigh x t (Held e ∷ ss) a f = rw (lower-above x t a f e) (lower-weigh x t ss a (above_at x t f e))
-lower-weigh x t (Damaged ∷ ss) a f = refl
+nearer-weigh x t [] a f = refl
+nearer-weigh x t (Blank ∷ ss) a f = refl
+nearer-weigh x t (Held e ∷ ss) a f = rw (nearer-above x t a f e) (nearer-weigh x t ss a (above_at x t f e))
+nearer-weigh x t (Damaged ∷ ss) a f = refl
 
 -- the least index key above x, with those of the buckets before
-pub index-least : (x t : ℕ) (ss : List Sector) (up : Option Entry) → runs is_index ss ≡ true → lower up (weigh (above_at x t) ss None) ≡ weigh (pick_up x t) ss up
-unfolding lower
-index-least x t ss up q = sym (index-weigh x t ss up q ∙ lower-weigh x t ss up None)
+pub index-least : (x t : ℕ) (ss : List Sector) (up : Option Entry) → runs is_index ss ≡ true → nearer up (weigh (above_at x t) ss None) ≡ weigh (pick_up x t) ss up
+unfolding nearer
+index-least x t ss up q = sym (index-weigh x t ss up q ∙ nearer-weigh x t ss up None)
 
 -- a data bucket asked for the least key above x, stamped t or earlier
 module _ (ok : Entry → Bool) (ss : List Sector) (q : runs ok ss ≡ true) (x t : ℕ) where

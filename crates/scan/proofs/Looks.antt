@@ -17,7 +17,7 @@ use Rattle.rules.specs.Plain.{and_then}
 use Rattle.rules.specs.Walk.{stands_on, Visit, Turn, broken, arrived, down, left, copy_of, turn, met, go, go_in, path, path_from, path_in, walk, data_of, standing}
 use Rattle.scan.specs.declared.Way.TheVariants.{Down, End}
 use Rattle.scan.specs.declared.Trip.{Trip}
-use Rattle.scan.specs.Scan.{damaged, sectors, search_log}
+use Rattle.scan.specs.Scan.{damaged, sectors, root_in, search_log}
 use Rattle.scan.specs.Look.{trip, onward, walk_scan, trip_from, told, told_of, look_scan_in, look_scan}
 use Rattle.scan.proofs.Ways.{way_on, way_in, search-bucket, root_of, last_left, search-log}
 
@@ -118,14 +118,14 @@ in_then rd t x f (Some es) = refl
 
 -- from the log on
 trip-walk : (h : Head) (card : List ℕ) (x t : ℕ)
-    → trip_from h card x t (search_log t (sectors h.n card 1 h.n)) ≡ trip_in x t 0 (walk h card t x)
+    → trip_from h card x t (root_in (search_log t (sectors h.n card 1 h.n))) ≡ trip_in x t 0 (walk h card t x)
 unfolding walk
 trip-walk h card x t =
-    from-root h card x t (search_log t (sectors h.n card 1 h.n))
+    from-root h card x t (root_in (search_log t (sectors h.n card 1 h.n)))
     ∙ ap (λ r. trip_in x t 0 (path_from (bucket h card) t x h.n r)) (search-log h card t)
     ∙ ap (trip_in x t 0) (in_then (bucket h card) t x h.n (log h card))
 
-told-hit : (bib r : ℕ) (c : Option Entry) → told bib r c ≡ sheet bib r (standing c)
+told-hit : (bib r : ℕ) (c : Option Entry) → told bib r (Ok c) ≡ sheet bib r (standing c)
 unfolding told standing
 told-hit bib r None = refl
 told-hit bib r (Some e) = refl

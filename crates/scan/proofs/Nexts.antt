@@ -24,7 +24,7 @@ use Rattle.laws.proofs.Tools.{none-some, and-true, then-inv, guard-true}
 use Rattle.scan.specs.declared.Way.TheVariants.{Down, End}
 use Rattle.scan.specs.declared.Leg.{Leg}
 use Rattle.scan.specs.declared.Leg.TheVariants.{Stand, Over}
-use Rattle.scan.specs.Scan.{damaged, sectors, search_log}
+use Rattle.scan.specs.Scan.{damaged, sectors, root_in, search_log}
 use Rattle.scan.specs.Next.{pick_up, weigh, stand_in, sectors_of, leg_of, stride, leg_scan, leg_from, leg, after, rounds, next_scan_in, next_scan}
 use Rattle.scan.proofs.Runs.{nil, run_of, run-sectors, fold}
 use Rattle.scan.proofs.Ways.{way_on, way_in, search-bucket, root_of, search-log}
@@ -134,7 +134,7 @@ from-leg h card k x t (Ok e) = leg-path h card k x t h.n None e.value 0
 leg-walk : (h : Head) (card : List ℕ) (k t x : ℕ) → leg h card k t x ≡ leg_in k x t None (walk h card t x)
 unfolding leg walk
 leg-walk h card k t x =
-    from-leg h card k x t (search_log t (sectors h.n card 1 h.n))
+    from-leg h card k x t (root_in (search_log t (sectors h.n card 1 h.n)))
     ∙ ap (λ r. leg_in k x t None (path_from (bucket h card) t x h.n r)) (search-log h card t)
     ∙ ap (leg_in k x t None) (in_then (bucket h card) t x h.n (log h card))
 

@@ -207,7 +207,7 @@ root-sure P (Ok None) s = tt
 root-sure P (Ok (Some e)) s = s
 
 -- and so does the root entry
-pub root-found : (n : ℕ) (card : List ℕ) (t i c : ℕ) (e : Entry) → search_log t (sectors n card i c) ≡ Ok e → Inside n e
+pub root-found : (n : ℕ) (card : List ℕ) (t i c : ℕ) (e : Entry) → root_in (search_log t (sectors n card i c)) ≡ Ok e → Inside n e
 unfolding search_log pick_root
 root-found n card t i c e q =
     let is = subst (RootSure (Inside n)) q in
@@ -271,4 +271,4 @@ from-sure h card k x t (Ok e) = scan-leg h card k x t h.n None tt e.value 0
 
 pub over-above : (h : Head) (card : List ℕ) (k t x : ℕ) (e : Entry) → leg h card k t x ≡ Ok (Over (Some e)) → x < e.key
 unfolding leg
-over-above h card k t x e q = subst (LegSure (Above x)) q (from-sure h card k x t (search_log t (sectors h.n card 1 h.n)))
+over-above h card k t x e q = subst (LegSure (Above x)) q (from-sure h card k x t (root_in (search_log t (sectors h.n card 1 h.n))))

@@ -132,7 +132,7 @@ log-close t (Some []) = root_none t
 log-close t (Some (e ∷ es)) = log-run t e es (every is_root (e ∷ es))
 
 -- the scan of the log finds the last root entry left, where the log is sound and has one
-pub search-log : (h : Head) (card : List ℕ) (t : ℕ) → root_of (search_log t (sectors h.n card 1 h.n)) ≡ and_then (log h card) (last_left t)
+pub search-log : (h : Head) (card : List ℕ) (t : ℕ) → root_of (root_in (search_log t (sectors h.n card 1 h.n))) ≡ and_then (log h card) (last_left t)
 unfolding search_log log
 search-log h card t =
     ap (λ f. root_of (root_in f)) (scan-close is_root (pick_root t) (sectors h.n card 1 h.n) None)

@@ -11,7 +11,7 @@ use Rattle.rules.specs.declared.refusal.Damage.{Damage}
 use Rattle.scan.specs.declared.Way.{Way}
 use Rattle.scan.specs.declared.Way.TheVariants.{Down, End}
 use Rattle.scan.specs.declared.Trip.{Trip}
-use Rattle.scan.specs.Scan.{damaged, sectors, search, search_log}
+use Rattle.scan.specs.Scan.{Found, damaged, sectors, search, root_in, search_log}
 
 -- bucket b of the card, which k was followed to
 unfoldable pub search_at : Head → List ℕ → ℕ → ℕ → ℕ → ℕ → Result Way Damage
@@ -46,18 +46,19 @@ trip_from h card x t (Err d) = damaged
 trip_from h card x t (Ok e) = walk_scan h card x t h.n 0 e.value 0
 
 -- the answer to a look
-unfoldable pub told : ℕ → ℕ → Option Entry → Answer
-told bib r None = sheet bib r None
-told bib r (Some e) = sheet bib r (standing (Some e))
+unfoldable pub told : ℕ → ℕ → Found → Answer
+told bib r (Err d) = refused 4
+told bib r (Ok None) = sheet bib r None
+told bib r (Ok (Some e)) = sheet bib r (standing (Some e))
 
 unfoldable pub told_of : ℕ → Result Trip Damage → Answer
 told_of bib (Err d) = refused 4
-told_of bib (Ok w) = told bib w.reads w.copy
+told_of bib (Ok w) = told bib w.reads (Ok w.copy)
 
 unfoldable pub look_scan_in : ℕ → ℕ → List ℕ → Option Head → Answer
 look_scan_in bib t card None = refused 1
 look_scan_in bib t card (Some h) =
-    if (eqb bib 0) (refused 2) (if (ltb t (beginning card)) (refused 13) (told_of bib (trip_from h card bib t (search_log t (sectors h.n card 1 h.n)))))
+    if (eqb bib 0) (refused 2) (if (ltb t (beginning card)) (refused 13) (told_of bib (trip_from h card bib t (root_in (search_log t (sectors h.n card 1 h.n))))))
 
 unfoldable pub look_scan : List ℕ → ℕ → ℕ → Answer
 look_scan card bib t = look_scan_in bib t card (head_of card)

@@ -14,7 +14,7 @@ use Rattle.scan.specs.declared.Way.{Way}
 use Rattle.scan.specs.declared.Way.TheVariants.{Down, End}
 use Rattle.scan.specs.declared.Leg.{Leg}
 use Rattle.scan.specs.declared.Leg.TheVariants.{Stand, Over}
-use Rattle.scan.specs.Scan.{damaged, sectors, all_blank, search_log}
+use Rattle.scan.specs.Scan.{Found, damaged, sectors, all_blank, root_in, search_log}
 use Rattle.scan.specs.Look.{search_at}
 
 -- the smaller key
@@ -47,10 +47,16 @@ runs ok (Blank ∷ ss) = all_blank ss
 runs ok (Held e ∷ ss) = ok e & runs ok ss
 runs ok (Damaged ∷ ss) = false
 
--- the entry with the smaller key of two that were found; of one key the second
-unfoldable pub lower : Option Entry → Option Entry → Option Entry
-lower a None = a
-lower a (Some e) = under a e
+-- the entry with the smaller key of two that may be there; of one key the second
+unfoldable pub nearer : Option Entry → Option Entry → Option Entry
+nearer a None = a
+nearer a (Some e) = under a e
+
+-- likewise of what two scans found: damage in either is damage
+unfoldable pub lower : Found → Found → Found
+lower a (Err d) = damaged
+lower (Err d) (Ok b) = damaged
+lower (Ok a) (Ok b) = Ok (nearer a b)
 
 -- whether a copy of x stamped t or earlier follows
 unfoldable pub later : ℕ → ℕ → List Sector → Bool
@@ -103,7 +109,7 @@ leg_from h card k x t (Ok e) = leg_scan h card k x t h.n None e.value 0
 
 -- one walk to x
 unfoldable pub leg : Head → List ℕ → ℕ → ℕ → ℕ → Result Leg Damage
-leg h card k t x = leg_from h card k x t (search_log t (sectors h.n card 1 h.n))
+leg h card k t x = leg_from h card k x t (root_in (search_log t (sectors h.n card 1 h.n)))
 
 -- what to do after it
 unfoldable pub after : Result Leg Damage → (ℕ → Answer) → Answer

@@ -74,11 +74,11 @@ search k x t (Damaged ∷ ss) = damaged
 unfoldable pub pick_root : ℕ → Option Entry → Entry → Option Entry
 pick_root t best e = if (leb e.stamp t) (Some e) best
 
+unfoldable pub search_log : ℕ → List Sector → Found
+search_log t ss = scan_in is_root (pick_root t) ss None
+
 -- the entry that a log has to have
 unfoldable pub root_in : Found → Result Entry Damage
 root_in (Err d) = damaged
 root_in (Ok None) = damaged
 root_in (Ok (Some e)) = Ok e
-
-unfoldable pub search_log : ℕ → List Sector → Result Entry Damage
-search_log t ss = root_in (scan_in is_root (pick_root t) ss None)

@@ -15,7 +15,7 @@ use Rattle.rules.specs.Bucket.{bucket, log}
 use Rattle.rules.specs.Walk.{Visit, Turn, broken, arrived, down, left, copy_of, turn, met, go, go_in, path, path_from, walk, data_of}
 use Rattle.rules.specs.Write.{latest}
 use Rattle.scan.specs.declared.Way.{Way}
-use Rattle.scan.specs.Scan.{damaged, sectors, search_log}
+use Rattle.scan.specs.Scan.{damaged, sectors, root_in, search_log}
 use Rattle.scan.specs.Look.{search_at}
 use Rattle.scan.proofs.Parts.{root-found}
 use Rattle.scan.proofs.Ways.{way_on, way_in, search-bucket, root_of, last_left, search-log}
@@ -81,24 +81,24 @@ track-walk h card x =
     track-from h card x (and_then (log h card) (last_left latest)) ∙ ap (track_in x []) (in_then (bucket h card) latest x h.n (log h card))
 
 -- as the scan of the log has it
-pub root-found-now : (h : Head) (card : List ℕ) (f : Result Entry Damage) → f ≡ search_log latest (sectors h.n card 1 h.n) → value_of (root_of f) ≡ root_now h card
+pub root-found-now : (h : Head) (card : List ℕ) (f : Result Entry Damage) → f ≡ root_in (search_log latest (sectors h.n card 1 h.n)) → value_of (root_of f) ≡ root_now h card
 unfolding root_now
 root-found-now h card f q = ap value_of (ap root_of q ∙ search-log h card latest)
 
-pub no-root : (h : Head) (card : List ℕ) (f : Result Entry Damage) (d : Damage) → f ≡ search_log latest (sectors h.n card 1 h.n) → f ≡ Err d → 0 ≡ root_now h card
+pub no-root : (h : Head) (card : List ℕ) (f : Result Entry Damage) (d : Damage) → f ≡ root_in (search_log latest (sectors h.n card 1 h.n)) → f ≡ Err d → 0 ≡ root_now h card
 unfolding value_of root_of
 no-root h card f d q is = sym (ap (λ (g : Result Entry Damage). value_of (root_of g)) is) ∙ root-found-now h card f q
 
-pub hit-root : (h : Head) (card : List ℕ) (f : Result Entry Damage) (e : Entry) → f ≡ search_log latest (sectors h.n card 1 h.n) → f ≡ Ok e → e.value ≡ root_now h card
+pub hit-root : (h : Head) (card : List ℕ) (f : Result Entry Damage) (e : Entry) → f ≡ root_in (search_log latest (sectors h.n card 1 h.n)) → f ≡ Ok e → e.value ≡ root_now h card
 unfolding value_of root_of
 hit-root h card f e q is = sym (ap (λ (g : Result Entry Damage). value_of (root_of g)) is) ∙ root-found-now h card f q
 
 -- a root is a bucket of the card
 pub root-within : (h : Head) (card : List ℕ) → root_now h card ≤ h.n
 unfolding value_of root_of
-root-within h card = subst (λ (b : ℕ). b ≤ h.n) (root-found-now h card _ refl) (go (search_log latest (sectors h.n card 1 h.n)) refl)
+root-within h card = subst (λ (b : ℕ). b ≤ h.n) (root-found-now h card _ refl) (go (root_in (search_log latest (sectors h.n card 1 h.n))) refl)
   where
-    go : (f : Result Entry Damage) → search_log latest (sectors h.n card 1 h.n) ≡ f → value_of (root_of f) ≤ h.n
+    go : (f : Result Entry Damage) → root_in (search_log latest (sectors h.n card 1 h.n)) ≡ f → value_of (root_of f) ≤ h.n
     go (Err d) q = omega arith
     go (Ok e) q = (root-found h.n card latest 1 h.n e q).1
 

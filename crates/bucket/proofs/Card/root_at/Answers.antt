@@ -1,21 +1,15 @@
--- `bucket::Card::root_at` meets its contract: the last root entry of the log stamped `stamp` or earlier.
-use mathlib.Core.Path.{sym, ◌∙◌}
+-- `bucket::Card::root_at` meets its contract: the entry that the log has to have.
+use mathlib.Core.Path.{sym, ap, ◌∙◌}
 use Rattle.std.proofs.lemmas.Result.{err_from_is_err_and}
-use Rattle.laws.proofs.Heads.{log-fits}
 use Rattle.scan.specs.Scan.{root_in}
-use Rattle.bucket.proofs.Places.{log-found, root-or}
+use Rattle.bucket.proofs.Places.{root-or}
 use Rattle.bucket.proofs.Card.root_at.Goals as goal
 
-pub returns-in_err-scan_log : goal.returns-in_err-scan_log
+pub returns-in_err-find_root : goal.returns-in_err-find_root
 unfolding root_in
-returns-in_err-scan_log c =
-    let card = c.args.self.now in
-    let found = sym c.in_err-scan_log.was ∙ c.scan_log.ensures in
+returns-in_err-find_root c =
     let p = err_from_is_err_and c.from_residual.result c.from_residual.ensures.1 in
-    p.1 ∙ log-found card.head card.bytes.now _ c.args.stamp _ (log-fits card.head card.bytes.now card.shape.long) c.log.ensures.0 found
+    p.1 ∙ ap root_in (sym c.in_err-find_root.was ∙ c.find_root.ensures)
 
 pub returns : goal.returns
-returns c =
-    let card = c.args.self.now in
-    let found = sym c.in_ok-scan_log.was ∙ c.scan_log.ensures in
-    c.ok_or.ensures.value ∙ root-or _ ∙ log-found card.head card.bytes.now _ c.args.stamp _ (log-fits card.head card.bytes.now card.shape.long) c.log.ensures.0 found
+returns c = c.ok_or.ensures.value ∙ root-or _ ∙ ap root_in (sym c.in_ok-find_root.was ∙ c.find_root.ensures)
