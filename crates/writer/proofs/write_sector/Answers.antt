@@ -29,9 +29,10 @@ laid s (k ∷ l ∷ m ∷ n ∷ o ∷ rest) f a b d x y z long four e p q r = ab
 
 pub returns : goal.returns
 returns c =
-    let four : length c.args.first ≡ 4 = search rules in
-    laid c.args.sector.now c.args.first _ _ _ _ _ _ _ c.requires four
-    c.copy_from_slice.ensures.after
-    (c.copy_from_slice-2.ensures.after ∙ c.to_le_bytes.ensures ∙ low_first c.args.key c.ranges.key.fits)
-    (c.copy_from_slice-3.ensures.after ∙ c.to_le_bytes-2.ensures ∙ low_first c.args.stamp c.ranges.stamp.fits)
-    (c.copy_from_slice-4.ensures.after ∙ c.to_le_bytes-3.ensures ∙ low_first c.args.value c.ranges.value.fits)
+    let a = c.args in
+    let four : length a.first ≡ 4 = search rules in
+    laid a.sector.now a.first _ _ _ _ _ _ _ c.requires four
+    c.write_word.ensures
+    (c.write_word-2.ensures ∙ c.to_le_bytes.ensures ∙ low_first a.key c.ranges.key.fits)
+    (c.write_word-3.ensures ∙ c.to_le_bytes-2.ensures ∙ low_first a.stamp c.ranges.stamp.fits)
+    (c.write_word-4.ensures ∙ c.to_le_bytes-3.ensures ∙ low_first a.value c.ranges.value.fits)
