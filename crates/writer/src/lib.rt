@@ -40,7 +40,6 @@ fn lend(card: &mut [u8], i: usize, first: [u8; 4], key: u32, stamp: u32, value: 
     write_sector(&mut card[at..at + 16], first, key, stamp, value);
 }
 
-#[tactic(auto, unfolding(rules::specs::Sector::encode, crate::specs::Words::four_words))]
 pub fn write_entry(card: &mut [u8], i: usize, e: Entry)
     requires { (16 * i + 16 ≤ length card.old) × Narrow e }
     ensures { card.new ≡ put card.old i (encode e) }
