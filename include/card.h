@@ -38,12 +38,12 @@
  * of it may be missing as of the call's stamp and later. What there is nevertheless: no byte
  * written before the call is touched; sectors are written one at a time, those of fresh buckets
  * first, then the entries that lead to them, the lower level before the upper, and an entry of the
- * root log last of all; and the four words of a sector are stored one after the other, the one with
- * the kind first. So until the first entry that leads to a fresh bucket is there, every question is
- * answered as before the call. What the call has written stays: its fresh buckets count as used,
- * and its stamp as given. In card_batch all this holds of the request at hand; what the ones before
- * it have written is whole. card_season writes to its target alone, and the root entry last of all:
- * until that is there the target has no root, which is damage, and the copy has to be made again on
+ * root log last of all; and the sixteen bytes of a sector are stored one after the other, the kind
+ * first. So until the first entry that leads to a fresh bucket is there, every question is answered
+ * as before the call. What the call has written stays: its fresh buckets count as used, and its
+ * stamp as given. In card_batch all this holds of the request at hand; what the ones before it have
+ * written is whole. card_season writes to its target alone, and the root entry last of all: until
+ * that is there the target has no root, which is damage, and the copy has to be made again on
  * another blank card. That is the order in the source; compiler, cache and memory keep it only
  * where they are made to. A caller who needs more makes the call on a copy and brings the changed
  * sectors over in that order.

@@ -8,16 +8,26 @@ ghost use Rattle.writer.specs.Words.{Narrow, four_words};
 
 use rules::{Entry, Head};
 
+// The four bytes of a word are stored one after the other, the first of them first: include/card.h says so of all sixteen of a sector.
+fn write_word(part: &mut [u8], bytes: [u8; 4])
+    requires { length part.old ≡ 4 }
+    ensures { part.new ≡ bytes }
+{
+    part[0] = bytes[0];
+    part[1] = bytes[1];
+    part[2] = bytes[2];
+    part[3] = bytes[3];
+}
+
 // The sixteen bytes of a sector: four bytes, and three numbers, lowest byte first.
-#[tactic(auto, unfolding(rules::specs::Sector::le4, crate::specs::Words::four_words))]
 fn write_sector(sector: &mut [u8], first: [u8; 4], key: u32, stamp: u32, value: u32)
     requires { length sector.old ≡ 16 }
     ensures { sector.new ≡ four_words first key stamp value }
 {
-    sector[0..4].copy_from_slice(&first);
-    sector[4..8].copy_from_slice(&key.to_le_bytes());
-    sector[8..12].copy_from_slice(&stamp.to_le_bytes());
-    sector[12..16].copy_from_slice(&value.to_le_bytes());
+    write_word(&mut sector[0..4], first);
+    write_word(&mut sector[4..8], key.to_le_bytes());
+    write_word(&mut sector[8..12], stamp.to_le_bytes());
+    write_word(&mut sector[12..16], value.to_le_bytes());
 }
 
 // Sector i of the card is lent to the writer.
@@ -30,7 +40,6 @@ fn lend(card: &mut [u8], i: usize, first: [u8; 4], key: u32, stamp: u32, value: 
     write_sector(&mut card[at..at + 16], first, key, stamp, value);
 }
 
-#[tactic(auto, unfolding(rules::specs::Sector::encode, crate::specs::Words::four_words))]
 pub fn write_entry(card: &mut [u8], i: usize, e: Entry)
     requires { (16 * i + 16 ≤ length card.old) × Narrow e }
     ensures { card.new ≡ put card.old i (encode e) }
