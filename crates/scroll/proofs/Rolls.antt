@@ -87,12 +87,21 @@ rolled-short card at (suc c) bib =
     ⊎_elim (λ (le : 1 ≤ a.bib). let less = rolled-short card at c a.bib in rw (ne_eqb a.bib 0 (λ z. omega arith)) (omega arith))
     (λ (lt : a.bib < 1). rw (eq-eqb a.bib 0 (omega arith)) (omega arith)) (le-or-lt 1 a.bib)
 
+-- the record of an answer can be written
+pub record-narrow : (card : List ℕ) → Bytes card → (at last : ℕ) (a : Answer) (e : Entry) → a ≡ next card last at → (a.bib ≡ 0 → ⊥) → e ≡ record_of a → Narrow e
+record-narrow card by at last a e is ne rec =
+    let kind = ap (λ (d : Entry). d.kind) rec in
+    let status = ap (λ (d : Entry). d.status) rec in
+    let told = ap (λ (b : Answer). b.status) is in
+    let few = next-status card by at last (λ z. ne (ap (λ (b : Answer). b.bib) is ∙ z)) in
+    (omega arith, omega arith)
+
 pub rolled-narrow : (card : List ℕ) → Bytes card → (at c bib : ℕ) → All Narrow (rolled card at c bib).records
 unfolding rolled roll_on
 rolled-narrow card by at zero bib = tt
 rolled-narrow card by at (suc c) bib =
     let a = next card bib at in
-    ⊎_elim (λ (le : 1 ≤ a.bib). let ne : a.bib ≡ 0 → ⊥ = λ z. omega arith in rw (ne_eqb a.bib 0 ne) ((omega arith, next-status card by at bib ne), rolled-narrow card by at c a.bib))
+    ⊎_elim (λ (le : 1 ≤ a.bib). let ne : a.bib ≡ 0 → ⊥ = λ z. omega arith in rw (ne_eqb a.bib 0 ne) (record-narrow card by at bib a _ refl ne refl, rolled-narrow card by at c a.bib))
     (λ (lt : a.bib < 1). rw (eq-eqb a.bib 0 (omega arith)) tt) (le-or-lt 1 a.bib)
 
 -- the tally of a roll that comes after n records
