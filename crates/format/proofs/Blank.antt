@@ -1,6 +1,6 @@
 -- What format puts at the first blanks of a blank card, sector by sector.
 use mathlib.Core.Path.{◌≡◌, ap, ◌∙◌}
-use mathlib.Core.Bool.{true}
+use mathlib.Core.Bool.{true, false}
 use Rattle.std.specs.Prelude.{Some}
 use mathlib.Core.List.{List, [], ◌∷◌}
 use Prim.Native.Nat.{ℕ, ◌+◌, ◌-◌, ◌*◌, ◌≤◌}
@@ -15,7 +15,8 @@ use Rattle.rules.specs.Plain.{◌&◌, zeros}
 use Rattle.rules.specs.Sector.{sector_at, put, encode, root_entry, index_entry}
 use Rattle.rules.specs.Layout.{limits, size_of, head_bytes, base}
 use Rattle.rules.specs.Rewrite.{into}
-use Rattle.rules.specs.Format.{dummy, formatted}
+use Rattle.rules.specs.Write.{refuse, refuse_if}
+use Rattle.rules.specs.Format.{dummy, formatted, format_for}
 use Rattle.laws.proofs.Tools.{and-true}
 use Rattle.laws.proofs.Sectors.{length-put, sector-put-other}
 use Rattle.laws.proofs.Codec.{length-encode}
@@ -98,6 +99,16 @@ module _ (h : Head) (card : List ℕ) (li : limits h ≡ true) (size : length ca
   formatted-is =
       ap (into h 2 (dummy ∷ [])) (into-first (rooted h card) 1 (1 + h.n) (index_entry 0 0 2) first-blank (first-base h))
       ∙ into-first (indexed h card) 2 (1 + h.n + h.m) dummy second-blank bucket-two
+
+-- the order of format's refusals: 8 where the geometry has no room on the card, then 9 where the card is not blank
+module _ (card : List ℕ) (h : Head) where
+  pub no_room : (limits h & eqb (length card) (size_of h)) ≡ false → format_for card h ≡ refuse 8
+  unfolding format_for refuse_if
+  no_room q = rw q
+
+  pub not-blank : (limits h & eqb (length card) (size_of h)) ≡ true → zeros card ≡ false → format_for card h ≡ refuse 9
+  unfolding format_for refuse_if
+  not-blank q z = rw (q, z)
 
 -- a geometry that suits a card
 module _ (card : List ℕ) (h : Head) where

@@ -27,7 +27,7 @@ use Rattle.laws.proofs.Bytes.{held-inv}
 use Rattle.laws.proofs.Entries.{legal-status}
 use Rattle.laws.proofs.Lists.{All, all_both, all_map}
 use Rattle.laws.proofs.Tools.{bool_cases, le-or-lt, none-some}
-use Rattle.gather.specs.Pages.{asked, wanted, said_of, said, firsts}
+use Rattle.gather.specs.Pages.{asked, wanted, said_of, said, firsts, onward}
 use Rattle.gather.proofs.Paging.{page-split, said-data, said_all}
 use Rattle.history.specs.Told.{after, rest_from, fit_after, row_of, HasRoom}
 
@@ -43,6 +43,19 @@ fit_is places k es le = rw (le-leb (k + length es) places le)
 fit-not : (places k : ℕ) (es : List Entry) → places < k + length es → fit_after places k (Some es) ≡ Err NoRoom
 unfolding fit_after
 fit-not places k es lt = rw (lt-leb (k + length es) places lt)
+
+-- as many places as there are entries do
+pub fit-exact : (places : ℕ) (o : Option (List Entry)) (x : ℕ) → Ok x ≡ fit_after places 0 o → (fit_after x 0 o ≡ Ok x) × (x ≤ places)
+unfolding fit_after
+fit-exact places None x q = absurd cc
+fit-exact places (Some es) x q =
+    ⊎_elim
+    (λ (le : 0 + length es ≤ places).
+    let fits : ◌≡◌ {A = Result ℕ Refusal} (Ok x) (Ok (0 + length es)) = q ∙ fit_is places 0 es le in
+    let same : x ≡ 0 + length es = cc in
+    (fit_is x 0 es (omega arith) ∙ ap Ok (sym same), omega arith))
+    (λ (lt : places < 0 + length es). let over : ◌≡◌ {A = Result ℕ Refusal} (Ok x) (Err NoRoom) = q ∙ fit-not places 0 es lt in absurd cc)
+    (le-or-lt (0 + length es) places)
 
 -- a page that is still to be turned
 abbrev pub waiting : Option ℕ → ℕ
@@ -115,6 +128,12 @@ module _ (bib t f : ℕ) (o : Option (List Entry)) (l : List Entry) (page : Some
   lay-on k out new w R h =
       let on = page-on in
       rw (on.2, w) (sym (puts-append out k l on.0) ∙ (rw on.1 at h))
+
+-- a full page laid down: what the next one begins with goes on behind it
+pub lay-more : (bib t f : ℕ) (o : Option (List Entry)) (l : List Entry) → Some l ≡ firsts (said_of bib t f o) → (k : ℕ) (out new : List ℕ) → new ≡ puts out k l
+    → (R : List ℕ) → row_of out k (said_of bib t f o) ≡ R → length l ≡ 34 → row_of new (k + 34) (said_of bib t (onward l) o) ≡ R
+unfolding rest_from after
+lay-more bib t f o l page k out new w R h full = rw full at (lay-on bib t f o l page (omega arith) k out new w R h)
 
 pub after-waits : (l : List Entry) → waiting (after l) ≤ length l
 unfolding after

@@ -21,6 +21,28 @@ use Rattle.bucket.proofs.Places.{pick-copy, choice}
 use Rattle.journal.specs.declared.Pass.{Pass}
 use Rattle.journal.specs.Passes.{follows, risen, pass, passed, broken, read_scan, lower}
 
+-- one test, then the other
+both-tests : {A : Type 0} (a b : Bool) (x y : A) → if a (if b x y) y ≡ if (a & b) x y
+both-tests true b x y = refl
+both-tests false b x y = refl
+
+-- what a sector that is read says of the sectors from it on
+module _ (x t used last : ℕ) (copy : Option Entry) where
+  pub read-damaged : (s : Sector) (l : List Sector) → s ≡ Damaged → broken ≡ read_scan x t (s ∷ l) used last copy
+  unfolding read_scan risen
+  read-damaged s l is = rw is
+
+  -- a blank, by whether all behind it are
+  pub read-by-blanks : (s : Sector) (l : List Sector) (b : Bool) → s ≡ Blank → b ≡ all_blank l → if b (Ok (pass used last copy)) broken ≡ read_scan x t (s ∷ l) used last copy
+  unfolding read_scan risen passed
+  read-by-blanks s l b is q = rw (is, q)
+
+  -- an entry, by whether it may follow
+  pub read-by-follows : (s : Sector) (e : Entry) (l : List Sector) (b : Bool) → s ≡ Held e → b ≡ follows last e
+      → if b (read_scan x t l (used + 1) e.stamp (pick false x t copy e)) broken ≡ read_scan x t (s ∷ l) used last copy
+  unfolding read_scan risen passed
+  read-by-follows s e l b is q = rw (is, q) (both-tests (follows last e) (risen e.stamp l) (Ok (passed x t l (used + 1) e.stamp (pick false x t copy e))) broken)
+
 -- what the sector read says of the whole pass, whose answer is w
 module _ (x t count i last : ℕ) (slice : List ℕ) (copy : Option Entry) (w : Result Pass Refusal) (inv : read_scan x t (sectors 0 slice i (count - i)) i last copy ≡ w) where
   pub read-end : count ≤ i → Ok (pass i last copy) ≡ w
@@ -32,24 +54,19 @@ module _ (x t count i last : ℕ) (slice : List ℕ) (copy : Option Entry) (w : 
 
   pub read_held : i < count → (e : Entry) → Held e ≡ decode 0 (sector_at slice i) → true ≡ follows last e
       → read_scan x t (sectors 0 slice (i + 1) (count - (i + 1))) (i + 1) e.stamp (pick false x t copy e) ≡ w
-  unfolding read_scan risen passed
-  read_held h e is fits = rw (← fits) at (met h (Held e) is)
+  read_held h e is fits = read-by-follows x t i last copy (Held e) e _ true refl fits ∙ met h (Held e) is
 
   pub read-misfit : i < count → (e : Entry) → Held e ≡ decode 0 (sector_at slice i) → false ≡ follows last e → broken ≡ w
-  unfolding read_scan risen
-  read-misfit h e is not = rw (← not) at (met h (Held e) is)
+  read-misfit h e is not = read-by-follows x t i last copy (Held e) e _ false refl not ∙ met h (Held e) is
 
   pub read-blank : i < count → Blank ≡ decode 0 (sector_at slice i) → true ≡ all_blank (sectors 0 slice (i + 1) (count - (i + 1))) → Ok (pass i last copy) ≡ w
-  unfolding read_scan risen passed
-  read-blank h is behind = rw (← behind) at (met h Blank is)
+  read-blank h is blanks = read-by-blanks x t i last copy Blank _ true refl blanks ∙ met h Blank is
 
   pub read-hole : i < count → Blank ≡ decode 0 (sector_at slice i) → false ≡ all_blank (sectors 0 slice (i + 1) (count - (i + 1))) → broken ≡ w
-  unfolding read_scan risen
-  read-hole h is behind = rw (← behind) at (met h Blank is)
+  read-hole h is blanks = read-by-blanks x t i last copy Blank _ false refl blanks ∙ met h Blank is
 
   pub read-damage : i < count → Damaged ≡ decode 0 (sector_at slice i) → broken ≡ w
-  unfolding read_scan risen
-  read-damage h is = met h Damaged is
+  read-damage h is = read-damaged x t i last copy Damaged _ refl ∙ met h Damaged is
 
 -- the place kept is that of the copy
 pub copy-place : (slice : List ℕ) (i place : ℕ) (e : Entry) → decode 0 (sector_at slice i) ≡ Held e → (x t : ℕ) (b : Bool) → b ≡ is_copy x t e
@@ -88,7 +105,13 @@ module _ (slice : List ℕ) (i best x t low : ℕ) (fits : (fields (sector_at sl
       rw (under_low slice best e fits, ← is) (in_order (leb e.stamp t) (ltb x e.key) (leb e.key low) (Some e) (found_at slice best))
       ∙ place (lower x t low e) ∙ ap (λ c. found_at slice (if c (i + 1) best)) (sym q)
 
+-- the lowest bib goes on with its place
+pub least-low : (slice : List ℕ) (i best low : ℕ) → low ≡ low_at slice best → (b : Bool) (less r : ℕ) → less ≡ if b (fields (sector_at slice i)).key low → r ≡ if b (i + 1) best
+    → less ≡ low_at slice r
+unfolding low_at
+least-low slice i best low is true less r l at_place = l ∙ sym (rw (at_place, add-one))
+least-low slice i best low is false less r l at_place = l ∙ is ∙ ap (low_at slice) (sym at_place)
+
 -- the bib of sector i, once it is the lowest
 pub low-next : (slice : List ℕ) (i : ℕ) → (fields (sector_at slice i)).key ≡ low_at slice (i + 1)
-unfolding low_at
-low-next slice i = rw add-one
+low-next slice i = least-low slice i (i + 1) _ refl true _ (i + 1) refl refl

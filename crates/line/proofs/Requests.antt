@@ -32,15 +32,59 @@ two-found f (a ∷ []) h = absurd (omega arith)
 two-found f (a ∷ b ∷ []) h = refl
 two-found f (a ∷ b ∷ c ∷ xs) h = absurd (omega arith)
 
-four-found : (f : ℕ → ℕ → ℕ → ℕ → Call) (xs : List ℕ) → length xs ≡ 4
-    → Some (f (get_or xs 0 0) (get_or xs 1 0) (get_or xs 2 0) (get_or xs 3 0)) ≡ four f xs
-unfolding four three two
-four-found f [] h = absurd (omega arith)
-four-found f (a ∷ []) h = absurd (omega arith)
-four-found f (a ∷ b ∷ []) h = absurd (omega arith)
-four-found f (a ∷ b ∷ c ∷ []) h = absurd (omega arith)
-four-found f (a ∷ b ∷ c ∷ d ∷ []) h = refl
-four-found f (a ∷ b ∷ c ∷ d ∷ e ∷ xs) h = absurd (omega arith)
+-- two numbers where there are two, four where there are four; else none
+unfoldable pub pair_of : Option (List ℕ) → Option (List ℕ)
+pair_of None = None
+pair_of (Some []) = None
+pair_of (Some (a ∷ [])) = None
+pair_of (Some (a ∷ b ∷ [])) = Some (a ∷ b ∷ [])
+pair_of (Some (a ∷ b ∷ c ∷ xs)) = None
+
+unfoldable pub four_of : Option (List ℕ) → Option (List ℕ)
+four_of None = None
+four_of (Some []) = None
+four_of (Some (a ∷ [])) = None
+four_of (Some (a ∷ b ∷ [])) = None
+four_of (Some (a ∷ b ∷ c ∷ [])) = None
+four_of (Some (a ∷ b ∷ c ∷ d ∷ [])) = Some (a ∷ b ∷ c ∷ d ∷ [])
+four_of (Some (a ∷ b ∷ c ∷ d ∷ e ∷ xs)) = None
+
+-- four numbers: two, and the pair behind them
+unfoldable pub joined : ℕ → ℕ → Option (List ℕ) → Option (List ℕ)
+joined x y None = None
+joined x y (Some xs) = Some (x ∷ y ∷ xs)
+
+pub four-joined : (x y : ℕ) (o : Option (List ℕ)) → four_of (and_then (and_then o (λ xs. Some (y ∷ xs))) (λ xs. Some (x ∷ xs))) ≡ joined x y (pair_of o)
+unfolding four_of pair_of joined
+four-joined x y None = refl
+four-joined x y (Some []) = refl
+four-joined x y (Some (a ∷ [])) = refl
+four-joined x y (Some (a ∷ b ∷ [])) = refl
+four-joined x y (Some (a ∷ b ∷ c ∷ xs)) = refl
+
+-- and the call they make
+unfoldable pub called_by : (ℕ → ℕ → ℕ → ℕ → Call) → Option (List ℕ) → Option Call
+called_by f None = None
+called_by f (Some xs) = Some (f (get_or xs 0 0) (get_or xs 1 0) (get_or xs 2 0) (get_or xs 3 0))
+
+pub four-of : (f : ℕ → ℕ → ℕ → ℕ → Call) (o : Option (List ℕ)) → and_then o (four f) ≡ called_by f (four_of o)
+unfolding four three two four_of called_by
+four-of f None = refl
+four-of f (Some []) = refl
+four-of f (Some (a ∷ [])) = refl
+four-of f (Some (a ∷ b ∷ [])) = refl
+four-of f (Some (a ∷ b ∷ c ∷ [])) = refl
+four-of f (Some (a ∷ b ∷ c ∷ d ∷ [])) = refl
+four-of f (Some (a ∷ b ∷ c ∷ d ∷ e ∷ xs)) = refl
+
+four-kept : (xs : List ℕ) → length xs ≡ 4 → Some xs ≡ four_of (Some xs)
+unfolding four_of
+four-kept [] h = absurd (omega arith)
+four-kept (a ∷ []) h = absurd (omega arith)
+four-kept (a ∷ b ∷ []) h = absurd (omega arith)
+four-kept (a ∷ b ∷ c ∷ []) h = absurd (omega arith)
+four-kept (a ∷ b ∷ c ∷ d ∷ []) h = refl
+four-kept (a ∷ b ∷ c ∷ d ∷ e ∷ xs) h = absurd (omega arith)
 
 -- the numbers of a line, found or not, as the call that the line asks for
 module _ (names : List (List ℕ)) (line : List ℕ) where
@@ -50,7 +94,8 @@ module _ (names : List (List ℕ)) (line : List ℕ) where
 
   pub four-made : (f : ℕ → ℕ → ℕ → ℕ → Call) (xs : List ℕ) → length names ≡ 4 → numbers names line ≡ Some xs
       → Some (f (get_or xs 0 0) (get_or xs 1 0) (get_or xs 2 0) (get_or xs 3 0)) ≡ and_then (numbers names line) (four f)
-  four-made f xs h e = rw e (four-found f xs (numbers-count names line xs e ∙ h))
+  unfolding called_by
+  four-made f xs h e = rw e (ap (called_by f) (four-kept xs (numbers-count names line xs e ∙ h)) ∙ sym (four-of f (Some xs)))
 
 -- of two calls the first that is one
 pub tried : {P : Type 0} (a b : Option Call) (first r : RustOption Request) → asked first ≡ a → (P → asked r ≡ b)

@@ -28,8 +28,9 @@ use Rattle.laws.proofs.Tools.{le-or-lt}
 use Rattle.next.specs.Found.{told, Above}
 use Rattle.writer.specs.Words.{Narrow}
 use Rattle.scroll.specs.declared.Tally.{Tally}
+use Rattle.scroll.specs.declared.roll.Cut.{Cut}
 use Rattle.writer.specs.Rows.{puts}
-use Rattle.scroll.specs.Records.{given, records_in, records_of, tally_of, tally_from}
+use Rattle.scroll.specs.Records.{given, records_in, records_of, tally_of, tally_from, tally_met}
 
 -- a post is the record that its answer gives
 post-record : (e : Entry) → is_post e ≡ true → post_entry e.key e.stamp e.status e.value ≡ e
@@ -86,12 +87,21 @@ rolled-short card at (suc c) bib =
     ⊎_elim (λ (le : 1 ≤ a.bib). let less = rolled-short card at c a.bib in rw (ne_eqb a.bib 0 (λ z. omega arith)) (omega arith))
     (λ (lt : a.bib < 1). rw (eq-eqb a.bib 0 (omega arith)) (omega arith)) (le-or-lt 1 a.bib)
 
+-- the record of an answer can be written
+pub record-narrow : (card : List ℕ) → Bytes card → (at last : ℕ) (a : Answer) (e : Entry) → a ≡ next card last at → (a.bib ≡ 0 → ⊥) → e ≡ record_of a → Narrow e
+record-narrow card by at last a e is ne rec =
+    let kind = ap (λ (d : Entry). d.kind) rec in
+    let status = ap (λ (d : Entry). d.status) rec in
+    let told = ap (λ (b : Answer). b.status) is in
+    let few = next-status card by at last (λ z. ne (ap (λ (b : Answer). b.bib) is ∙ z)) in
+    (omega arith, omega arith)
+
 pub rolled-narrow : (card : List ℕ) → Bytes card → (at c bib : ℕ) → All Narrow (rolled card at c bib).records
 unfolding rolled roll_on
 rolled-narrow card by at zero bib = tt
 rolled-narrow card by at (suc c) bib =
     let a = next card bib at in
-    ⊎_elim (λ (le : 1 ≤ a.bib). let ne : a.bib ≡ 0 → ⊥ = λ z. omega arith in rw (ne_eqb a.bib 0 ne) ((omega arith, next-status card by at bib ne), rolled-narrow card by at c a.bib))
+    ⊎_elim (λ (le : 1 ≤ a.bib). let ne : a.bib ≡ 0 → ⊥ = λ z. omega arith in rw (ne_eqb a.bib 0 ne) (record-narrow card by at bib a _ refl ne refl, rolled-narrow card by at c a.bib))
     (λ (lt : a.bib < 1). rw (eq-eqb a.bib 0 (omega arith)) tt) (le-or-lt 1 a.bib)
 
 -- the tally of a roll that comes after n records
@@ -156,25 +166,24 @@ number-some NoRoom z = omega arith
 
 -- what is given of a roll that was counted: all where it met no refusal, else nothing
 module _ (r : Roll) where
-  pub tally-all : (n : ℕ) → tally_after n (roll 0 []) ≡ tally_of r → tally_from (Ok n) ≡ tally_of (given r)
-  tally-all n h =
-      let e : n + 0 ≡ n = omega arith in
-      rw (given-all r (sym (ap (λ (t : Tally). t.code) h))) (rw e at h)
+  pub tally-all : (n : ℕ) → tally_met (Ok n) ≡ tally_of r → tally_from (Ok n) ≡ tally_of (given r)
+  tally-all n h = rw (given-all r (sym (ap (λ (t : Tally). t.code) h))) h
 
-  pub tally-none : (x : Refusal) (n : ℕ) → tally_after n (roll (number x) []) ≡ tally_of r → tally_from (Err x) ≡ tally_of (given r)
-  tally-none x n h =
+  pub tally-none : (cut : Cut) → tally_met (Err cut) ≡ tally_of r → tally_from (Err cut.refusal) ≡ tally_of (given r)
+  tally-none cut h =
       let same = ap (λ (t : Tally). t.code) h in
-      rw (given-none r (λ z. number-some x (same ∙ z))) (ap (λ (k : ℕ). tally_of (roll k [])) same)
+      rw (given-none r (λ z. number-some cut.refusal (same ∙ z))) (ap (λ (k : ℕ). tally_of (roll k [])) same)
 
 -- a turn of the count, and each of its ends
 module _ (card : List ℕ) (at c i last : ℕ) (r : Result (Option Entry) Refusal) (is : told r ≡ next card last at) (whole : Roll) (inv : tally_after i (rolled card at (c - i) last) ≡ tally_of whole) where
-  pub count-ended : r ≡ Ok None → tally_from (Ok i) ≡ tally_of (given whole)
-  count-ended q = tally-all whole i (rw (roll-ended card at last r is q (c - i)) at inv)
+  pub count-ended : r ≡ Ok None → tally_met (Ok i) ≡ tally_of whole
+  count-ended q = let n : i + 0 ≡ i = omega arith in rw n at (rw (roll-ended card at last r is q (c - i)) at inv)
 
-  pub count-refused : i < c → (x : Refusal) → r ≡ Err x → tally_from (Err x) ≡ tally_of (given whole)
+  pub count-refused : i < c → (x : Refusal) → r ≡ Err x → tally_met (Err (record { refusal = x; count = i })) ≡ tally_of whole
   count-refused lt x q =
       let e : c - i ≡ suc (c - (i + 1)) = omega arith in
-      tally-none whole x i (rw (e, roll-refused card at last r is x q (c - (i + 1))) at inv)
+      let n : i + 0 ≡ i = omega arith in
+      rw n at (rw (e, roll-refused card at last r is x q (c - (i + 1))) at inv)
 
   pub count-found : i < c → (e : Entry) → r ≡ Ok (Some e) → Above last r → tally_after (i + 1) (rolled card at (c - (i + 1)) e.key) ≡ tally_of whole
   count-found lt e q above =
@@ -183,9 +192,12 @@ module _ (card : List ℕ) (at c i last : ℕ) (r : Result (Option Entry) Refusa
       let many : i + 1 + length on.records ≡ i + suc (length on.records) = omega arith in
       rw many (rw (one, roll-found card at last r is e q above (c - (i + 1))) at inv)
 
-pub count-full : (card : List ℕ) (at c last : ℕ) (whole : Roll) → tally_after c (rolled card at (c - c) last) ≡ tally_of whole → tally_from (Ok c) ≡ tally_of (given whole)
+pub count-full : (card : List ℕ) (at c last : ℕ) (whole : Roll) → tally_after c (rolled card at (c - c) last) ≡ tally_of whole → tally_met (Ok c) ≡ tally_of whole
 unfolding rolled
-count-full card at c last whole inv = let e : c - c ≡ 0 = omega arith in tally-all whole c (rw e at inv)
+count-full card at c last whole inv =
+    let e : c - c ≡ 0 = omega arith in
+    let n : c + 0 ≡ c = omega arith in
+    rw n at (rw e at inv)
 
 -- what a count says of the roll
 pub counted-all : (r : Roll) (n : ℕ) → tally_from (Ok n) ≡ tally_of (given r) → (r.code ≡ 0) × (n ≡ length r.records)
@@ -203,9 +215,20 @@ TellsRoll r out done new = record { value : tally_from done ≡ tally_of r; out_
 pub refused-roll : (r : Roll) (out : List ℕ) (x : Refusal) (done : Result ℕ Refusal) → done ≡ Err x → r ≡ roll (number x) [] → TellsRoll r out done out
 refused-roll r out x done e q = record { value = ap tally_from e ∙ ap tally_of (sym q); out_after = ap (λ (s : Roll). puts out 0 s.records) (sym q) }
 
+-- beside a refusal nothing is given, and the buffer is as it was
+pub records-none : (card : List ℕ) (at c bib : ℕ) (out : List ℕ) (t : Tally) → t ≡ tally_of (rolled card at c bib) → (t.code ≡ 0 → ⊥)
+    → (record { code = t.code; count = 0 } ≡ tally_of (given (rolled card at c bib))) × (out ≡ puts out 0 (given (rolled card at c bib)).records)
+records-none card at c bib out t is z =
+    let same = ap (λ (u : Tally). u.code) is in
+    rw (given-none (rolled card at c bib) (λ e. z (same ∙ e))) (ap (λ (n : ℕ). tally_of (roll n [])) same, refl)
+
 module _ (card : List ℕ) (at c bib : ℕ) (out : List ℕ) where
   pub page-all : (n : ℕ) → tally_from (Ok n) ≡ tally_of (given (rolled card at c bib)) → (new : List ℕ) → new ≡ puts out 0 (rolled card at n bib).records
       → new ≡ puts out 0 (given (rolled card at c bib)).records
   page-all n is new h =
       let all = counted-all (rolled card at c bib) n is in
       rw (given-all (rolled card at c bib) all.0) (h ∙ ap (λ (k : ℕ). puts out 0 (rolled card at k bib).records) all.1 ∙ ap (puts out 0) (roll-length card at c bib))
+
+  pub page-none : (cut : Cut) → tally_met (Err cut) ≡ tally_of (rolled card at c bib)
+      → (tally_from (Err cut.refusal) ≡ tally_of (given (rolled card at c bib))) × (out ≡ puts out 0 (given (rolled card at c bib)).records)
+  page-none cut is = records-none card at c bib out _ is (number-some cut.refusal)

@@ -8,6 +8,7 @@ use Rattle.rules.specs.Layout.{head_of, beginning}
 use Rattle.rules.specs.Plain.{if}
 use Rattle.rules.specs.Records.{Roll, roll, rolled}
 use Rattle.scroll.specs.declared.Tally.{Tally}
+use Rattle.scroll.specs.declared.roll.Cut.{Cut}
 
 -- "A refusal gives zeros beside its number"
 unfoldable pub given : Roll → Roll
@@ -28,3 +29,8 @@ tally_of r = record { code = r.code; count = length r.records }
 abbrev pub tally_from : Result ℕ Refusal → Tally
 tally_from (Ok n) = record { code = 0; count = n }
 tally_from (Err r) = record { code = number r; count = 0 }
+
+-- the tally of so many records, or of a refusal and of those that stood before it
+abbrev pub tally_met : Result ℕ Cut → Tally
+tally_met (Ok n) = record { code = 0; count = n }
+tally_met (Err cut) = record { code = number cut.refusal; count = cut.count }

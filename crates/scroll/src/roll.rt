@@ -3,7 +3,7 @@ ghost use Rattle.std.specs.Prelude.{◌≡◌, ◌*◌, ◌≤◌, length, Match
 ghost use Rattle.std.specs.Iterator.{YieldsFirst, item_count};
 ghost use Rattle.writer.specs.Rows.{puts};
 ghost use Rattle.rules.specs.Records.{rolled};
-ghost use Rattle.scroll.specs.Records.{given, tally_of, tally_from};
+ghost use Rattle.scroll.specs.Records.{tally_of, tally_met};
 ghost use Rattle.scroll.specs.Left.{left};
 
 use rules::{Entry, Refusal};
@@ -48,17 +48,33 @@ impl<'a> Iterator for Records<'a> {
     }
 }
 
-// How many records come above a bib, up to so many places, unless a refusal ends them.
-pub fn counted(card: &[u8], bib: u32, at: u32, places: usize) -> Result<usize, Refusal>
-    ensures value { tally_from result ≡ tally_of (given (rolled card.now at places bib)) }
-    ensures most { MatchResult result (λ count. count ≤ places) (λ _. Unit {0}) }
+// The refusal that ends a row of records, and how many stood before it.
+#[derive(Clone, Copy, Debug, PartialEq, Eq)]
+pub struct Cut {
+    pub refusal: Refusal,
+    pub count: usize,
+}
+
+impl From<Cut> for Refusal {
+    ghost from_gives = { λ cut r. r ≡ cut.refusal };
+
+    fn from(cut: Cut) -> Refusal {
+        cut.refusal
+    }
+}
+
+// How many records come above a bib, up to so many places; and the refusal that ends them, if one does.
+pub fn counted(card: &[u8], bib: u32, at: u32, places: usize) -> Result<usize, Cut>
+    ensures value { tally_met result ≡ tally_of (rolled card.now at places bib) }
+    ensures most { MatchResult result (λ count. count ≤ places) (λ cut. cut.count ≤ places) }
 {
     let mut last = bib;
     for count in 0..places {
-        let Some(e) = next::following(card, last, at)? else {
-            return Ok(count);
-        };
-        last = e.key;
+        match next::following(card, last, at) {
+            Ok(Some(e)) => last = e.key,
+            Ok(None) => return Ok(count),
+            Err(refusal) => return Err(Cut { refusal, count }),
+        }
     }
     Ok(places)
 }

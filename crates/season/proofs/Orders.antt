@@ -12,23 +12,23 @@ use Rattle.rules.specs.Plain.{◌&◌, zeros}
 use Rattle.rules.specs.Sector.{put, encode, root_entry}
 use Rattle.rules.specs.Layout.{limits, size_of, head_of, beginning}
 use Rattle.rules.specs.Write.{refuse, accept, refuse_if}
-use Rattle.rules.specs.declared.refusal.Refusal.{Refusal}
 use Rattle.rules.specs.Records.{Roll, rolled}
-use Rattle.scroll.specs.Records.{given, tally_of, tally_from}
-use Rattle.scroll.proofs.Rolls.{counted-all, counted-none}
+use Rattle.scroll.specs.declared.roll.Cut.{Cut}
+use Rattle.scroll.specs.Records.{tally_of, tally_met}
+use Rattle.scroll.proofs.Rolls.{tally-all, tally-none, counted-all, counted-none}
 use Rattle.rules.specs.Season.{standing_at, quota, built, rooted_on, season_on, season_to, season_for}
 use Rattle.season.specs.Storeys.{fresh}
 use Rattle.season.proofs.Built.{built-fresh}
 
 -- what was counted
 module _ (card : List ℕ) (t : ℕ) where
-  pub counted-standing : (n : ℕ) → tally_from (Ok n) ≡ tally_of (given (rolled card t 4294967296 0)) → ((standing_at card t).code ≡ 0) × (n ≡ length (standing_at card t).records)
+  pub counted-standing : (n : ℕ) → tally_met (Ok n) ≡ tally_of (rolled card t 4294967296 0) → ((standing_at card t).code ≡ 0) × (n ≡ length (standing_at card t).records)
   unfolding standing_at
-  counted-standing n is = counted-all (rolled card t 4294967296 0) n is
+  counted-standing n is = counted-all (rolled card t 4294967296 0) n (tally-all _ n is)
 
-  pub counted-damaged : (x : Refusal) → tally_from (Err x) ≡ tally_of (given (rolled card t 4294967296 0)) → (standing_at card t).code ≡ 0 → ⊥
+  pub counted-damaged : (cut : Cut) → tally_met (Err cut) ≡ tally_of (rolled card t 4294967296 0) → (standing_at card t).code ≡ 0 → ⊥
   unfolding standing_at
-  counted-damaged x is = counted-none (rolled card t 4294967296 0) x is
+  counted-damaged cut is = counted-none (rolled card t 4294967296 0) cut.refusal (tally-none _ cut is)
 
 module _ (h : Head) (s : ℕ) (target : List ℕ) (r : Roll) where
   pub no_room : (limits h & eqb (length target) (size_of h)) ≡ false → season_to h s target r ≡ refuse 8

@@ -4,6 +4,7 @@ use mathlib.Core.Bool.{Bool, true, false, not}
 use mathlib.Core.List.{List, [], ◌++◌}
 use Prim.Native.Nat.{ℕ, ◌+◌, ◌*◌, ◌≤◌, ◌<◌}
 use native.Mathlib.Omega.{arith}
+use native.Mathlib.Nat.{mul-le-mul}
 use lib.ListN.{length, take, drop, replicate, take-append-drop}
 use lib.Seq.{length-take-le}
 use lib.Dec.{eqb}
@@ -19,6 +20,12 @@ use Rattle.rules.specs.Bench.{first_card, first_format}
 use Rattle.laws.proofs.Zeros.{zero-drop}
 use Rattle.session.specs.Cards.{Room}
 use Rattle.session.proofs.Buffers.{front-is, front-back, blank-front}
+
+-- the number of sectors that two numbers of a line call for is no more than 64 bits hold
+pub product-fits : (n m : ℕ) → n < 4294967296 → m < 4294967296 → n * (m + 1) < 18446744073709551616
+product-fits n m hn hm =
+    let h : n * (m + 1) ≤ 4294967295 * 4294967296 = mul-le-mul {n₁ = n} {m₁ = m + 1} {n₂ = 4294967295} {m₂ = 4294967296} (omega arith) (omega arith) in
+    omega arith
 
 module _ (n m td ti : ℕ) where
   -- "a card longer than the buffer is answer 8"

@@ -2,6 +2,7 @@
 #![tactic(auto)]
 
 ghost use Rattle.std.specs.Prelude.{◌≡◌, true, false, ◌+◌, ◌-◌, ◌*◌, ◌≤◌, ◌<◌, length, drop, leb, MatchResult};
+ghost use Rattle.rules.specs.declared.refusal.Refusal.TheVariants as Refusals;
 ghost use Rattle.rules.specs.Plain.{zeros};
 ghost use Rattle.rules.specs.Write.{stamp_of, top_stamp, top_used, stamp_on};
 ghost use Rattle.survey.specs.Survey.{survey_of};
@@ -14,6 +15,20 @@ use rules::Refusal;
 pub struct Area {
     pub stamp: u32,
     pub used: usize,
+}
+
+// The stamp of a write comes too late; and the highest bucket with a nonzero byte, which is the same whatever the stamp.
+#[derive(Clone, Copy, Debug, PartialEq, Eq)]
+pub struct Late {
+    pub used: usize,
+}
+
+impl From<Late> for Refusal {
+    ghost from_gives = { λ _ r. r ≡ Refusals.Stamp };
+
+    fn from(_late: Late) -> Refusal {
+        Refusal::Stamp
+    }
 }
 
 // Whether a stamp field of the card's sectors from..to is above `before`, whatever the kinds are: if none is, no stamp is.
@@ -178,13 +193,14 @@ pub fn survey(card: &Card) -> Area
     }
 }
 
-// For a write stamped `at`: the highest bucket used, unless the stamp comes too late. The card's stamps are asked for nothing else.
-pub fn survey_for(card: &Card, at: u32) -> Result<usize, Refusal>
-    ensures { MatchResult result (λ used. (leb at (stamp_on card.now.head card.now.bytes.now) ≡ false) × (used ≡ top_used card.now.head card.now.bytes.now card.now.head.n)) (λ r. (leb at (stamp_on card.now.head card.now.bytes.now) ≡ true) × (r ≡ Refusal.Stamp)) }
+// For a write stamped `at`: the highest bucket used, also where the stamp comes too late. The card's stamps are asked for nothing else.
+pub fn survey_for(card: &Card, at: u32) -> Result<usize, Late>
+    ensures { MatchResult result (λ used. (leb at (stamp_on card.now.head card.now.bytes.now) ≡ false) × (used ≡ top_used card.now.head card.now.bytes.now card.now.head.n)) (λ late. (leb at (stamp_on card.now.head card.now.bytes.now) ≡ true) × (late.used ≡ top_used card.now.head card.now.bytes.now card.now.head.n)) }
 {
     let last = written(card);
+    let used = highest(card, last);
     if too_late(card, last, at) {
-        return Err(Refusal::Stamp);
+        return Err(Late { used });
     }
-    Ok(highest(card, last))
+    Ok(used)
 }

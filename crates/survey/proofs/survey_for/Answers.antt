@@ -1,5 +1,5 @@
 -- `survey::survey_for`: what the buckets before the blank end have is what all have.
-use mathlib.Core.Path.{refl, ap, sym, ◌∙◌}
+use mathlib.Core.Path.{ap, sym, ◌∙◌}
 use lib.Dec.{leb}
 use Rattle.rules.specs.Write.{stamp_on}
 use Rattle.survey.specs.declared.Area.{Area}
@@ -10,10 +10,10 @@ pub returns-then-too_late : goal.returns-then-too_late
 unfolding survey_of stamp_on
 returns-then-too_late c =
     let all = c.written-last.ensures.upper_bound.1 in
-    (ap (λ (s : Area). leb c.args.at s.stamp) all ∙ sym c.if-too_late.ensures, refl)
+    (ap (λ (s : Area). leb c.args.at s.stamp) all ∙ sym c.if-too_late.ensures, c.highest-used.ensures ∙ ap (λ (s : Area). s.used) (sym all))
 
 pub returns : goal.returns
 unfolding survey_of stamp_on
 returns c =
     let all = c.written-last.ensures.upper_bound.1 in
-    (ap (λ (s : Area). leb c.args.at s.stamp) all ∙ sym c.if-too_late.ensures, c.highest.ensures ∙ ap (λ (s : Area). s.used) (sym all))
+    (ap (λ (s : Area). leb c.args.at s.stamp) all ∙ sym c.if-too_late.ensures, c.highest-used.ensures ∙ ap (λ (s : Area). s.used) (sym all))

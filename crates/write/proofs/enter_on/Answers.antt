@@ -18,7 +18,7 @@ pub returns-in_err-used : goal.returns-in_err-used
 returns-in_err-used c =
     let p = err_from_is_err_and c.from_residual-in_err-used.result c.from_residual-in_err-used.ensures.1 in
     let out = stale c.args.card.now c.args.e c.args.head c.requires.0 (sym c.check.ensures ∙ c.in_ok-check.was) c.in_err-used.ensures.0 in
-    rw (p.1, p.2, c.in_err-used.ensures.1) (out, refl)
+    rw (p.1, p.2) (out, refl)
 
 pub insert-requires : goal.insert-requires
 insert-requires c =
