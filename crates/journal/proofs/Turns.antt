@@ -33,15 +33,15 @@ module _ (x t used last : ℕ) (copy : Option Entry) where
   read-damaged s l is = rw is
 
   -- a blank, by whether all behind it are
-  pub read-by-blanks : (s : Sector) (l : List Sector) (b : Bool) → s ≡ Blank → b ≡ all_blank l → if b (Ok (pass used last copy)) broken ≡ read_scan x t (s ∷ l) used last copy
+  pub read-blank : (s : Sector) (l : List Sector) (b : Bool) → s ≡ Blank → b ≡ all_blank l → if b (Ok (pass used last copy)) broken ≡ read_scan x t (s ∷ l) used last copy
   unfolding read_scan risen passed
-  read-by-blanks s l b is q = rw (is, q)
+  read-blank s l b is q = rw (is, q)
 
   -- an entry, by whether it may follow
-  pub read-by-follows : (s : Sector) (e : Entry) (l : List Sector) (b : Bool) → s ≡ Held e → b ≡ follows last e
+  pub read_held : (s : Sector) (e : Entry) (l : List Sector) (b : Bool) → s ≡ Held e → b ≡ follows last e
       → if b (read_scan x t l (used + 1) e.stamp (pick false x t copy e)) broken ≡ read_scan x t (s ∷ l) used last copy
   unfolding read_scan risen passed
-  read-by-follows s e l b is q = rw (is, q) (both-tests (follows last e) (risen e.stamp l) (Ok (passed x t l (used + 1) e.stamp (pick false x t copy e))) broken)
+  read_held s e l b is q = rw (is, q) (both-tests (follows last e) (risen e.stamp l) (Ok (passed x t l (used + 1) e.stamp (pick false x t copy e))) broken)
 
 -- what the sector read says of the whole pass, whose answer is w
 module _ (x t count i last : ℕ) (slice : List ℕ) (copy : Option Entry) (w : Result Pass Refusal) (inv : read_scan x t (sectors 0 slice i (count - i)) i last copy ≡ w) where
@@ -52,18 +52,18 @@ module _ (x t count i last : ℕ) (slice : List ℕ) (copy : Option Entry) (w : 
   met : i < count → (s : Sector) → s ≡ decode 0 (sector_at slice i) → read_scan x t (s ∷ sectors 0 slice (i + 1) (count - (i + 1))) i last copy ≡ w
   met h s is = sectors-turn (λ l. read_scan x t l i last copy) 0 count i slice s w h is inv
 
-  pub read_held : i < count → (e : Entry) → Held e ≡ decode 0 (sector_at slice i) → true ≡ follows last e
+  pub read-next : i < count → (e : Entry) → Held e ≡ decode 0 (sector_at slice i) → true ≡ follows last e
       → read_scan x t (sectors 0 slice (i + 1) (count - (i + 1))) (i + 1) e.stamp (pick false x t copy e) ≡ w
-  read_held h e is fits = read-by-follows x t i last copy (Held e) e _ true refl fits ∙ met h (Held e) is
+  read-next h e is fits = read_held x t i last copy (Held e) e _ true refl fits ∙ met h (Held e) is
 
   pub read-misfit : i < count → (e : Entry) → Held e ≡ decode 0 (sector_at slice i) → false ≡ follows last e → broken ≡ w
-  read-misfit h e is not = read-by-follows x t i last copy (Held e) e _ false refl not ∙ met h (Held e) is
+  read-misfit h e is not = read_held x t i last copy (Held e) e _ false refl not ∙ met h (Held e) is
 
-  pub read-blank : i < count → Blank ≡ decode 0 (sector_at slice i) → true ≡ all_blank (sectors 0 slice (i + 1) (count - (i + 1))) → Ok (pass i last copy) ≡ w
-  read-blank h is blanks = read-by-blanks x t i last copy Blank _ true refl blanks ∙ met h Blank is
+  pub read-rest : i < count → Blank ≡ decode 0 (sector_at slice i) → true ≡ all_blank (sectors 0 slice (i + 1) (count - (i + 1))) → Ok (pass i last copy) ≡ w
+  read-rest h is blanks = read-blank x t i last copy Blank _ true refl blanks ∙ met h Blank is
 
   pub read-hole : i < count → Blank ≡ decode 0 (sector_at slice i) → false ≡ all_blank (sectors 0 slice (i + 1) (count - (i + 1))) → broken ≡ w
-  read-hole h is blanks = read-by-blanks x t i last copy Blank _ false refl blanks ∙ met h Blank is
+  read-hole h is blanks = read-blank x t i last copy Blank _ false refl blanks ∙ met h Blank is
 
   pub read-damage : i < count → Damaged ≡ decode 0 (sector_at slice i) → broken ≡ w
   read-damage h is = read-damaged x t i last copy Damaged _ refl ∙ met h Damaged is
