@@ -4,5 +4,5 @@
 use std::process::ExitCode;
 
 fn main(rt: HostRuntime) -> ExitCode {
-    serve::status(&rt)
+    serve::status(&mut rt.stdin(), &mut rt.stdout())
 }

@@ -1,8 +1,9 @@
 // The bench program but for its main: the loop that takes the input byte by byte and answers each line when it ends.
 #![tactic(auto)]
 
-ghost use Rattle.std.specs.Prelude.{IfSome, OnOk};
+ghost use Rattle.std.specs.Prelude.{◌≡◌, IfSome, OnOk};
 ghost use Rattle.std.specs.Io.KnownBytes.{Appends};
+ghost use Rattle.std.specs.Process.{exit_status};
 ghost use Rattle.rules.specs.Bench.{bench};
 
 mod bench;
@@ -26,9 +27,11 @@ pub fn run<R: Read, W: Write>(from: &mut R, to: &mut W) -> io::Result<()>
     bench.serve(from, to, &mut buf)
 }
 
-// The program on the process's own input and output, and the status that it ends with.
-pub fn status(rt: &HostRuntime) -> ExitCode {
-    match run(&mut rt.stdin(), &mut rt.stdout()) {
+// The program, and the status that it ends with: success says that all of the input is answered.
+pub fn status<R: Read, W: Write>(from: &mut R, to: &mut W) -> ExitCode
+    ensures told { exit_status result ≡ 0 → IfSome (R.remaining from.old) (λ input. Appends (W.contents to.old) (W.contents to.new) (bench input)) }
+{
+    match run(from, to) {
         Ok(()) => ExitCode::SUCCESS,
         Err(_) => ExitCode::FAILURE,
     }
