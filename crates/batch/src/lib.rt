@@ -96,11 +96,11 @@ fn known_after(card: &Card, first: Result<Entered, Refusal>, at: u32) -> Known
     requires { Knew card.now.head card.now.bytes.now first at }
     ensures { Knows card.now.head card.now.bytes.now result }
 {
-    if let Ok(entered) = first {
+    if let Ok(done) = first {
         return Known {
             stamp: at,
-            used: entered.used,
-            root: entered.root,
+            used: done.used,
+            root: done.root,
         };
     }
     let area = survey::survey(card);
