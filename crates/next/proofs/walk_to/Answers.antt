@@ -5,13 +5,13 @@ use native.Mathlib.Nat.{sub-zero}
 use native.Mathlib.Omega.{arith}
 use Rattle.std.specs.Prelude.{None, Ok}
 use Rattle.std.proofs.lemmas.Result.{err_from_is_err_and}
-use Rattle.scan.specs.declared.Way.TheVariants.{Down, End}
+use Rattle.scan.specs.declared.Way.TheVariants.{Down}
 use Rattle.scan.specs.Next.{pick_up, weigh, stand_in, sectors_of, leg_of, stride, leg_scan}
 use Rattle.scan.proofs.Loops.{leg-turn, leg-out}
 use Rattle.scan.proofs.Parts.{down-inside}
 use Rattle.scan.proofs.Judged.{down-runs, end-runs}
 use Rattle.next.proofs.walk_to.Goals as goal
-use Rattle.next.proofs.walk_to.Goals.{After-search, In-Down, In-End}
+use Rattle.next.proofs.walk_to.Goals.{After-search, In-Down}
 
 pub loop-reads-init : goal.loop-reads-init
 loop-reads-init c = (c.requires.0, c.requires.1, rw sub-zero)
@@ -45,9 +45,6 @@ returns-in_err-e c =
 down : (q : In-Down) → q.search.result ≡ Ok (Down q.in-Down.e)
 down q = q.in_ok-e.was ∙ ap Ok q.in-Down.is
 
-end : (q : In-End) → q.search.result ≡ Ok (End q.in-End.field-0)
-end q = q.in_ok-e.was ∙ ap Ok q.in-End.is
-
 pub loop-reads-preserved : goal.loop-reads-preserved
 unfolding stride
 loop-reads-preserved c =
@@ -66,9 +63,9 @@ key_above-up-requires c =
 pub arrive-requires : goal.arrive-requires
 arrive-requires c =
     let card = c.args.card.now in
-    let runs = end-runs card.head card.bytes.now c.args.x c.args.t c.loop-reads.b c.loop-reads.header _ _ c.search.ensures (end (goal.at.arrive-requires c).In-End) in
+    let runs = end-runs card.head card.bytes.now c.args.x c.args.t c.loop-reads.b c.loop-reads.header _ _ c.search.ensures (c.in_ok-e.was ∙ ap Ok c.in-End.is) in
     (c.loop-reads.invariant.0, c.loop-reads.invariant.1, runs)
 
 pub returns-in-End : goal.returns-in-End
 unfolding stride
-returns-in-End c = rw c.arrive.ensures (rw (end (goal.at.returns-in-End c).In-End) at (turn_at (goal.at.returns-in-End c).After-search))
+returns-in-End c = rw c.arrive.ensures (rw (c.in_ok-e.was ∙ ap Ok c.in-End.is) at (turn_at (goal.at.returns-in-End c).After-search))
